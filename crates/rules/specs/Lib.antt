@@ -1,0 +1,11 @@
+pub mod Search
+pub mod Text
+pub mod Table
+pub mod Checks
+pub mod Policies
+pub mod Slots
+pub mod Decided
+pub mod AsRun
+pub mod Verdicts
+pub mod Schedules
+pub mod Demands
