@@ -1,0 +1,12 @@
+pub mod Order
+pub mod Uniform
+pub mod Domination
+pub mod Times
+pub mod Runs
+pub mod Repetition
+pub mod Falls
+pub mod Twin
+pub mod Decides
+pub mod Responses
+pub mod Policies
+pub mod Rows
