@@ -10,3 +10,7 @@ pub mod Decides
 pub mod Responses
 pub mod Policies
 pub mod Rows
+pub mod Answers
+pub mod WorkedTables
+pub mod Demand3
+pub mod AsRun
