@@ -14,3 +14,5 @@ pub mod Answers
 pub mod WorkedTables
 pub mod Demand3
 pub mod AsRun
+pub mod Replies
+pub mod ScheduleReplies
