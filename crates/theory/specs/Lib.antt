@@ -16,3 +16,5 @@ pub mod Demand3
 pub mod AsRun
 pub mod Replies
 pub mod ScheduleReplies
+pub mod Counters
+pub mod Jump

@@ -1,0 +1,274 @@
+-- Many slots at once. As long as nothing is released and the task that has the slot is not complete, it keeps the slot: n slots
+-- are one jump in closed form, first loading, then executing. Nothing is missed between but what is due and incomplete.
+-- For any run, any key. Assumes nothing.
+use mathlib.Core.Path.{_≡_, refl, sym, ap, _∙_}
+use mathlib.Core.Bool.{Bool, true, false, cond, _&&_}
+use Prim.Native.Nat.{ℕ, zero, suc, _+_, _-_, _≤_, _<_, pred}
+use native.Mathlib.Nat.{add-zero, add-suc, mod-self}
+use native.Mathlib.Omega.{arith}
+use borrow.Author.Tests.{lt-leb, eqb-true, eqb-false, eq-eqb, ne-eqb}
+use lib.Dec.{leb, eqb}
+use Rattle.rules.specs.declared.Row.{Row}
+use Rattle.rules.specs.Policies.{System}
+use Rattle.rules.specs.Slots.{toLoad, State, Choice, complete, unless, release, pick, loading, released, newest, due, joins, rank, lengths, joined, run, who, onTime, missed}
+use Rattle.basics.specs.Cases.{test, le-case, clash}
+use Rattle.theory.specs.Uniform.{bit, served, uniform, act, run-next}
+use Rattle.theory.specs.Order.{First, pick-first, agree-all}
+use Rattle.theory.specs.Domination.{was}
+use Rattle.theory.specs.Times.{released-again, released-from}
+use Rattle.theory.specs.Runs.{keeps, incomplete}
+use Rattle.theory.specs.Counters.{until, released-until, newest-released, newest-only, newest-until, due-newest}
+
+-- THE CLOSED FORM: the state after m slots of p, which has l slots to load at first
+
+abbrev pub gained : ℕ → ℕ → ℕ → ℕ → ℕ
+gained p l m i = cond (eqb p (suc i)) (m - l) 0
+
+abbrev pub jump : State → ℕ → ℕ → ℕ → State
+jump s p l m = record {
+  need = s .need;
+  executed = λ i. s .executed i + gained p l m i;
+  last = unless (λ i. leb (s .need i) (s .executed i + gained p l m i)) p;
+  left = l - m;
+}
+
+-- equal states, of any run: on the tasks there are
+pub record Alike (n : ℕ) (a b : State) : Type 0 where
+  pub need : (i : ℕ) → i < n → a .need i ≡ b .need i
+  pub executed : (i : ℕ) → i < n → a .executed i ≡ b .executed i
+  pub last : a .last ≡ b .last
+  pub left : a .left ≡ b .left
+
+-- ON THE MACHINE
+
+pub pick-is : (r : ℕ → ℕ) (d : ℕ → Bool) (n p : ℕ) → First r d n p → pick r d n ≡ p
+pick-is r d n p f = agree-all r r d d n (λ i h e. e) (λ i j u v. (λ e. e, λ e. e)) (λ i h e. e) (pick r d n) p (pick-first r d n) f
+
+pub pick-none : (r : ℕ → ℕ) (d : ℕ → Bool) (n : ℕ) → ((i : ℕ) → i < n → d i ≡ true) → pick r d n ≡ 0
+pick-none r d n f = pick-is r d n 0 f
+
+-- the first stays the first
+pub first-moves : (r s : ℕ → ℕ) (d e : ℕ → Bool) (n p : ℕ) → ((i : ℕ) → i < n → d i ≡ e i) → ((i : ℕ) → i < n → d i ≡ false → r i ≡ s i) → First r d n p → First s e n p
+first-moves r s d e n zero same ranks f = λ i h. sym (same i h) ∙ f i h
+first-moves r s d e n (suc j) same ranks f = (
+  f .0,
+  sym (same j (f .0)) ∙ f .1,
+  λ i h q.
+      let o = same i h ∙ q in
+      rw (← ranks i h o, ← ranks j (f .0) (f .1)) (f .2 i h o),
+)
+
+gain-none : (b : Bool) (l : ℕ) → cond b (0 - l) 0 ≡ 0
+gain-none true l = omega arith
+gain-none false l = refl
+
+gain-more : (b : Bool) (l k : ℕ) → cond b (k - l) 0 + bit (eqb (l - k) 0 && b) ≡ cond b (suc k - l) 0
+gain-more true l k = test (eqb (l - k) 0)
+    (λ e. let q = eqb-true (l - k) 0 e in rw e (omega arith))
+    (λ e. let q = eqb-false (l - k) 0 e in rw e (le-case l k (λ z. absurd (q (omega arith))) (λ z. omega arith)))
+gain-more false l k = test (eqb (l - k) 0) (λ e. rw e refl) (λ e. rw e refl)
+
+pred-less : (l k : ℕ) → pred (l - k) ≡ l - suc k
+pred-less l k = omega arith
+
+module _ (n : ℕ) (s : State) (p l : ℕ) (below : p ≤ n) where
+  jump-more : (x : State) (k : ℕ) → ((i : ℕ) → i < n → x .executed i ≡ s .executed i + gained p l k i) → (i : ℕ) → i < n
+      → served (x .executed) p (l - k) i ≡ s .executed i + gained p l (suc k) i
+  jump-more x k e i h = rw (e i h) (omega (arith, gain-more (eqb p (suc i)) l k))
+
+  last-more : (x : State) (k q : ℕ) → q ≤ n → ((i : ℕ) → i < n → x .need i ≡ s .need i) → ((i : ℕ) → i < n → served (x .executed) p (l - k) i ≡ s .executed i + gained p l (suc k) i)
+      → unless (λ i. leb (x .need i) (served (x .executed) p (l - k) i)) q ≡ unless (λ i. leb (s .need i) (s .executed i + gained p l (suc k) i)) q
+  last-more x k zero b needs e = refl
+  last-more x k (suc j) b needs e = rw (e j b, needs j b)
+
+  -- one uniform more
+  slot-more : (x : State) (k : ℕ) → ((i : ℕ) → i < n → x .need i ≡ s .need i) → ((i : ℕ) → i < n → x .executed i ≡ s .executed i + gained p l k i)
+      → Alike n (uniform x p (l - k)) (jump s p l (suc k))
+  slot-more x k needs e = record { need = needs; executed = jump-more x k e; last = last-more x k p below needs (jump-more x k e); left = pred-less l k }
+
+  slot-first : Alike n (uniform s p l) (jump s p l 1)
+  slot-first =
+      let e : l - 0 ≡ l = omega arith in
+      rw e at (slot-more s 0 (λ i h. refl) (λ i h. omega (arith, gain-none (eqb p (suc i)) l)))
+
+  -- who is complete does not change, as long as p is not
+  jump-done : (k : ℕ) → ((j : ℕ) → p ≡ suc j → s .executed j + (k - l) < s .need j) → (i : ℕ) → complete (jump s p l k) i ≡ complete s i
+  jump-done k busy i = test (eqb p (suc i))
+      (λ e. let b = busy i (eqb-true p (suc i) e) in
+      rw e (lt-leb (s .need i) (s .executed i + (k - l)) b ∙ sym (lt-leb (s .need i) (s .executed i) (omega arith))))
+      (λ e. rw (e, add-zero (s .executed i)))
+
+  -- where p was not complete at the end, it is the last, with the loading that is left
+  loading-more : (load : ℕ → ℕ → ℕ) (x : State) (k q : ℕ) → p ≡ q → (q ≡ 0 → l ≡ 0) → x .last ≡ q → x .left ≡ l - k → loading load x q ≡ l - k
+  loading-more load x k zero e z last left = let c = z refl in omega arith
+  loading-more load x k (suc j) e z last left = rw (eq-eqb (x .last) (suc j) last) left
+
+  last-stays : (k q : ℕ) → p ≡ q → ((j : ℕ) → p ≡ suc j → s .executed j + (k - l) < s .need j) → jump s p l k .last ≡ p
+  last-stays k zero e busy = rw e refl
+  last-stays k (suc j) e busy = let b = jump-done k busy j in
+      let f = lt-leb (s .need j) (s .executed j) (omega (arith, busy j e)) in
+      go p e (b ∙ f)
+    where
+      go : (q : ℕ) → q ≡ suc j → complete (jump s p l k) j ≡ false → unless (complete (jump s p l k)) q ≡ q
+      go q a b = rw (a, b)
+
+-- TIMES
+
+newest-near : (w : Row) → 0 < w .period → (t : ℕ) → w .offset ≤ t → (newest w t ≤ t) × (t < newest w t + w .period)
+unfolding newest
+newest-near w pos t h = (omega arith, omega (arith, newest-until w pos t h))
+
+-- the newest release stays the newest, as long as there is none
+pub newest-quiet : (w : Row) → 0 < w .period → (t k : ℕ) → w .offset ≤ t → ((u : ℕ) → t < u → u ≤ t + k → released w u ≡ false) → newest w (t + k) ≡ newest w t
+newest-quiet w pos t k h quiet =
+    let e = newest-released w t h in
+    let n = newest-near w pos t h in
+    le-case (newest w t + w .period) (t + k)
+    (λ q. clash (released-again w (w .period) (mod-self (w .period)) (newest w t) (first e) ∙ e) (quiet (newest w t + w .period) (n .1) q))
+    (λ q. newest-only w (newest w t) (t + k) e (omega (arith, n .0)) q)
+  where
+    first : released w (newest w t) ≡ true → w .offset ≤ newest w t
+    first e = released-from w (newest w t) e
+
+-- ON A RUN
+
+abbrev pub now : System → (ℕ → Choice) → ℕ → State
+now y c t = joined y (c t) t (run y c t)
+
+abbrev pub whose : System → (ℕ → Choice) → ℕ → ℕ
+whose y c t = who y (c t) t (run y c t)
+
+abbrev pub loads : System → (ℕ → Choice) → ℕ → ℕ
+loads y c t = toLoad y (c t) t (run y c t)
+
+-- nothing is released between t and t + m
+abbrev pub Quiet : System → ℕ → ℕ → Type 0
+Quiet y t m = (i u : ℕ) → i < y .tasks → t < u → u < t + m → released (y .row i) u ≡ false
+
+-- the task that has slot t is not complete after k slots, of which it loads l
+abbrev pub Busy : State → ℕ → ℕ → ℕ → Type 0
+Busy s p l k = (j : ℕ) → p ≡ suc j → s .executed j + (k - l) < s .need j
+
+-- no release: jobs that join change nothing
+joined-quiet : (n : ℕ) (x : ℕ → Bool) (c : ℕ → ℕ) (a b : State) → ((i : ℕ) → i < n → x i ≡ false) → b .last ≤ n → Alike n a b → Alike n (release x c a) b
+joined-quiet n x c a b e h m = record { need = λ i k. rw (e i k) (m .need i k); executed = λ i k. rw (e i k) (m .executed i k); last = go (a .last) (m .last); left = m .left }
+  where
+    go : (q : ℕ) → q ≡ b .last → unless x q ≡ b .last
+    go zero k = k
+    go (suc j) k = rw (e j (omega arith)) k
+
+first-le : (r : ℕ → ℕ) (d : ℕ → Bool) (n p : ℕ) → First r d n p → p ≤ n
+first-le r d n zero f = omega arith
+first-le r d n (suc j) f = f .0
+
+no-load : (load : ℕ → ℕ → ℕ) (s : State) (p : ℕ) → p ≡ 0 → loading load s p ≡ 0
+no-load load s p e = rw e refl
+
+module _ (y : System) (pos : (i : ℕ) → i < y .tasks → 0 < y .row i .period) (c : ℕ → Choice) (t : ℕ) where
+  -- one uniform more, from the closed form of those before; s, p, l are what they are at t
+  more : (s : State) (p l k : ℕ) → First (rank y t) (complete s) (y .tasks) p → (p ≡ 0 → l ≡ 0) → ((i : ℕ) → i < y .tasks → complete s i ≡ false → y .row i .offset ≤ t)
+      → Quiet y t (suc (suc k)) → Busy s p l (suc k) → Alike (y .tasks) (run y c (t + suc k)) (jump s p l (suc k)) → Alike (y .tasks) (run y c (suc (t + suc k))) (jump s p l (suc (suc k)))
+  more s p l k f idle begun quiet busy m = rw (run-next y c (t + suc k), picked, loaded) (slot-more n s p l (first-le (rank y t) (complete s) n p f) x (suc k) (λ i h. j .need i h) (λ i h. j .executed i h))
+    where
+      n : ℕ
+      n = y .tasks
+
+      u : ℕ
+      u = t + suc k
+
+      x : State
+      x = joined y (c u) u (run y c u)
+
+      stay : jump s p l (suc k) .last ≡ p
+      stay = last-stays n s p l (first-le (rank y t) (complete s) n p f) (suc k) p refl busy
+
+      j : Alike n x (jump s p l (suc k))
+      j = joined-quiet n (joins y u) _ (run y c u) (jump s p l (suc k)) (λ i h. quiet i u h (omega arith) (omega arith)) (omega (arith, stay, first-le (rank y t) (complete s) n p f)) m
+
+      same : (i : ℕ) → i < n → complete s i ≡ complete x i
+      same i h = sym (jump-done n s p l (first-le (rank y t) (complete s) n p f) (suc k) busy i) ∙ (rw (j .need i h, j .executed i h))
+
+      ranks : (i : ℕ) → i < n → complete s i ≡ false → rank y t i ≡ rank y u i
+      ranks i h e = ap (y .key i) (sym (newest-quiet (y .row i) (pos i h) t (suc k) (begun i h e) (λ v a b. quiet i v h a (omega arith))))
+
+      picked : pick (rank y u) (complete x) n ≡ p
+      picked = pick-is (rank y u) (complete x) n p (first-moves (rank y t) (rank y u) (complete s) (complete x) n p same ranks f)
+
+      loaded : loading (lengths y (c u)) x p ≡ l - suc k
+      loaded = loading-more n s p l (first-le (rank y t) (complete s) n p f) (lengths y (c u)) x (suc k) p refl idle (j .last ∙ stay) (j .left)
+
+  -- THE JUMP
+  pub jumps : (k : ℕ) → Quiet y t (suc k) → Busy (now y c t) (whose y c t) (loads y c t) k
+      → Alike (y .tasks) (run y c (t + suc k)) (jump (now y c t) (whose y c t) (loads y c t) (suc k))
+  jumps zero quiet busy =
+      let e : t + 1 ≡ suc t = omega arith in
+      rw (e, run-next y c t) (slot-first (y .tasks) (now y c t) (whose y c t) (loads y c t) (first-le (rank y t) (complete (now y c t)) (y .tasks) (whose y c t) (pick-first (rank y t) (complete (now y c t)) (y .tasks))))
+  jumps (suc k) quiet busy = rw (add-suc t (suc k)) (more (now y c t) (whose y c t) (loads y c t) k (pick-first (rank y t) (complete (now y c t)) (y .tasks))
+      (no-load (lengths y (c t)) (now y c t) (whose y c t)) (λ i h e. incomplete y c t i e) quiet busy
+      (jumps k (λ i u h a b. quiet i u h a (omega arith)) (λ j e. omega (arith, busy j e))))
+
+  -- within it, nobody's job is completed
+  pub done-inside : (k i : ℕ) → i < y .tasks → Quiet y t (suc k) → Busy (now y c t) (whose y c t) (loads y c t) (suc k) → complete (run y c (t + suc k)) i ≡ complete (now y c t) i
+  done-inside k i h quiet busy =
+      let m = jumps k quiet (λ j e. omega (arith, busy j e)) in
+      rw (m .need i h, m .executed i h) (jump-done (y .tasks) (now y c t) (whose y c t) (loads y c t)
+      (first-le (rank y t) (complete (now y c t)) (y .tasks) (whose y c t) (pick-first (rank y t) (complete (now y c t)) (y .tasks))) (suc k) busy i)
+
+  -- what is complete stays so
+  pub done-quiet : (k i : ℕ) → i < y .tasks → Quiet y t (suc k) → complete (now y c t) i ≡ true → complete (run y c (t + suc k)) i ≡ true
+  done-quiet zero i h quiet e =
+      let q : t + 1 ≡ suc t = omega arith in
+      rw (q, run-next y c t) (test (complete (act (y .tasks) (rank y t) (lengths y (c t)) (now y c t)) i) (λ z. z) (λ z. clash e (was (now y c t) (whose y c t) (loads y c t) i z)))
+  done-quiet (suc k) i h quiet e = rw (add-suc t (suc k)) (keeps y c (t + suc k) i (quiet i (t + suc k) h (omega arith) (omega arith))
+      (done-quiet k i h (λ j u a b d. quiet j u a b (omega arith)) e))
+
+  -- NOTHING IS MISSED but what was incomplete and is due
+  pub none-missed : (k : ℕ) → Quiet y t (suc k) → ((i : ℕ) → i < y .tasks → complete (now y c t) i ≡ false → due (y .row i) (t + suc k) ≡ false)
+      → missed y (t + suc k) (run y c (t + suc k)) ≡ 0
+  none-missed k quiet calm = pick-none (λ i. 0) (onTime y (t + suc k) (run y c (t + suc k))) (y .tasks) (λ i h. test (due (y .row i) (t + suc k))
+      (λ e. rw e (done-quiet k i h quiet (test (complete (now y c t) i) (λ z. z) (λ z. clash e (calm i h z)))))
+      (λ e. rw e refl))
+
+  -- FOR A LOOP: m slots at once, up to the next release, the next deadline of an incomplete task, or the completion of the task
+  -- that has the uniform; or any fewer
+  pub event : (m : ℕ) → 0 < m → Quiet y t m → Busy (now y c t) (whose y c t) (loads y c t) (m - 1)
+      → ((i v : ℕ) → i < y .tasks → complete (now y c t) i ≡ false → t < v → v < t + m → due (y .row i) v ≡ false)
+      → Alike (y .tasks) (run y c (t + m)) (jump (now y c t) (whose y c t) (loads y c t) m) × ((v : ℕ) → t < v → v < t + m → missed y v (run y c v) ≡ 0)
+  event m some quiet busy calm = (first, λ v a b. between v a b)
+    where
+      first : Alike (y .tasks) (run y c (t + m)) (jump (now y c t) (whose y c t) (loads y c t) m)
+      first =
+          let e : suc (m - 1) ≡ m = omega arith in
+          rw e at (jumps (m - 1) (λ i u h a b. quiet i u h a (omega arith)) busy)
+
+      between : (v : ℕ) → t < v → v < t + m → missed y v (run y c v) ≡ 0
+      between v a b =
+          let e : t + suc (v - suc t) ≡ v = omega arith in
+          rw e at (none-missed (v - suc t) (λ i u h p q. quiet i u h p (omega arith)) (λ i h p. calm i (t + suc (v - suc t)) h p (omega arith) (omega arith)))
+
+-- FOR A LOOP THAT COUNTS DOWN: the next release after t is at suc t + until w (suc t)
+module _ (w : Row) where
+  pub until-falls : (t d : ℕ) → d ≤ until w t → until w (t + d) ≡ until w t - d
+  unfolding until
+  until-falls t zero h = rw (add-zero t) (omega arith)
+  until-falls t (suc d) h =
+      let e = until-falls t d (omega arith) in
+      rw (add-suc t d, e, ne-eqb (until w t - d) 0 (λ z. absurd (omega arith))) (pred-less (until w t) d)
+
+  pub quiet-until : 0 < w .period → (t u : ℕ) → t < u → u < suc t + until w (suc t) → released w u ≡ false
+  quiet-until pos t u a b =
+      let e : suc t + (u - suc t) ≡ u = omega arith in
+      let f = rw e at (until-falls (suc t) (u - suc t) (omega arith)) in
+      released-until w pos u ∙ ne-eqb (until w u) 0 (λ z. absurd (omega arith))
+
+  -- where nothing is released between, the one deadline between is that of the newest job
+  pub quiet-due : 0 < w .period → 0 < w .deadline → w .deadline ≤ w .period → (t v : ℕ) → w .offset ≤ t → t < v → ((u : ℕ) → t < u → u < v → released w u ≡ false)
+      → (v ≡ newest w t + w .deadline → ⊥) → due w v ≡ false
+  quiet-due pos some short t v h a quiet other = test (due w v) (λ e. absurd (other (go e))) (λ e. e)
+    where
+      go : due w v ≡ true → v ≡ newest w t + w .deadline
+      go e =
+          let p : suc (v - 1) ≡ v = omega arith in
+          let q : t + (v - 1 - t) ≡ v - 1 = omega arith in
+          let n = rw q at (newest-quiet w pos t (v - 1 - t) h (λ u k l. quiet u k (omega arith))) in
+          omega (arith, n, due-newest w some short (v - 1) (rw p e))
