@@ -114,7 +114,7 @@ module _ (n : ℕ) (s : State) (p l : ℕ) (below : p ≤ n) where
 
 -- TIMES
 
-newest-near : (w : Row) → 0 < w .period → (t : ℕ) → w .offset ≤ t → (newest w t ≤ t) × (t < newest w t + w .period)
+pub newest-near : (w : Row) → 0 < w .period → (t : ℕ) → w .offset ≤ t → (newest w t ≤ t) × (t < newest w t + w .period)
 unfolding newest
 newest-near w pos t h = (omega arith, omega (arith, newest-until w pos t h))
 

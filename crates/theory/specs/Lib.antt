@@ -18,3 +18,4 @@ pub mod Replies
 pub mod ScheduleReplies
 pub mod Counters
 pub mod Jump
+pub mod Completions
