@@ -1,4 +1,5 @@
--- Checks 5 to 13 in their order. Assumes nothing.
+-- Checks 3 to 13 in their order, over the rows that the reader kept: they are the checks of all rows (`kept-checked`). For
+-- check_rows and read_table.
 use mathlib.Core.Path.{_≡_, sym, ap, _∙_}
 use mathlib.Core.Logic.{_≢_}
 use mathlib.Core.List.{List, _++_}
@@ -47,7 +48,7 @@ module _ (t : Kept) (full : length (t .rows) ≡ 16) (lo : 1 ≤ t .count) (hi :
         sym (open-checks ∙ rw (eq-eqb (f .number) 0 z, ← eh, le-leb h 100000 g, n, ← em, ← rs))
 
 -- rows kept are the rows, up to sixteen
-pub kept-checked : (rows : List Row) → keptChecked (keptOf rows) ≡ rowsChecked rows
+kept-checked : (rows : List Row) → keptChecked (keptOf rows) ≡ rowsChecked rows
 unfolding rowsChecked
 kept-checked rows = le-case 1 (length rows)
     (λ a. le-case (length rows) 16

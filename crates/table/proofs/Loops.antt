@@ -1,4 +1,5 @@
--- Loops over the rows. Assumes nothing.
+-- Loops over the first n of the sixteen rows: what is counted, searched or compared so far and what is to come are the whole.
+-- For count_of, place_of, first_fault and omax_of; `rest-cons` and `rest-end` take such a list apart.
 use mathlib.Core.Path.{_≡_, sym, ap, _∙_}
 use mathlib.Core.Logic.{_≢_}
 use mathlib.Core.Bool.{Bool, cond}
@@ -11,7 +12,7 @@ use lib.ListN.{length, take, drop, getD, drop-of-length-le}
 use lib.Seq.{drop-cons, getD-take, length-take-le}
 use borrow.Author.Tests.{ne-eqb}
 use Rattle.rules.specs.declared.Row.{Row}
-use Rattle.rules.specs.Table.{noRow, omax, whole}
+use Rattle.rules.specs.Table.{noRow, omax}
 use Rattle.rules.specs.Checks.{key, times, better, smallest, place, nothing, firstFault}
 
 pub rest-cons : {R : Type 0} (n : ℕ) (rows : List R) (i : ℕ) (d : R) → i < n → n ≤ length rows
@@ -36,14 +37,14 @@ module _ (n : ℕ) (rows : List Row) (k : n ≤ length rows) where
   unfolding times
   times-done m x a i h e = omega (arith, e, ap (times m x) (rest-end n rows i h k))
 
-  pub smallest-turn : (p : Row → Bool) (whole b i c : ℕ) → i < n → whole ≡ smallest p b (drop i (take n rows))
-      → c ≡ better (p (getD rows i noRow)) ((getD rows i noRow) .id) b → whole ≡ smallest p c (drop (i + 1) (take n rows))
+  pub smallest-turn : (p : Row → Bool) (all b i c : ℕ) → i < n → all ≡ smallest p b (drop i (take n rows))
+      → c ≡ better (p (getD rows i noRow)) ((getD rows i noRow) .id) b → all ≡ smallest p c (drop (i + 1) (take n rows))
   unfolding smallest
-  smallest-turn p whole b i c h e f = e ∙ rw (rest-cons n rows i noRow h k, f)
+  smallest-turn p all b i c h e f = e ∙ rw (rest-cons n rows i noRow h k, f)
 
-  pub smallest-done : (p : Row → Bool) (whole b i : ℕ) → n ≤ i → whole ≡ smallest p b (drop i (take n rows)) → b ≡ whole
+  pub smallest-done : (p : Row → Bool) (all b i : ℕ) → n ≤ i → all ≡ smallest p b (drop i (take n rows)) → b ≡ all
   unfolding smallest
-  smallest-done p whole b i h e = sym (e ∙ rw (rest-end n rows i h k))
+  smallest-done p all b i h e = sym (e ∙ rw (rest-end n rows i h k))
 
 -- the checks from n on
 module _ (rows : List Row) where
