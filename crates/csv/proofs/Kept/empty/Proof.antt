@@ -1,0 +1,13 @@
+-- `csv::Kept::empty` keeps no rows.
+use borrow.Author.Needs.{needs}
+use Rattle.csv.proofs.Kept.empty.Statement.{statement}
+use Rattle.csv.proofs.Kept.empty.Tie as tie
+
+blank-requires : tie.Need-blank-requires
+blank-requires c κs = search needs
+
+returns : tie.Need-returns
+returns c = rw (c .blank .ensures)
+
+pub empty-spec : {M : Type 1} → statement M
+empty-spec = tie.close (tie.spec blank-requires returns)

@@ -1,0 +1,5 @@
+pub mod All
+pub mod Permutations
+pub mod Canonical
+pub mod Passed
+pub mod Reordering

@@ -1,0 +1,5 @@
+-- Laws of this crate's loops and of the order of its checks.
+pub mod Loops
+pub mod Hyper
+pub mod Sort
+pub mod Checked
