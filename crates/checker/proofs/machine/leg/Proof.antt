@@ -1,0 +1,211 @@
+use Rattle.checker.proofs.machine.leg.Statement.{statement}
+use Rattle.checker.proofs.machine.leg.Tie as tie
+use Rattle.checker.proofs.machine.leg.Reads as reads
+use Rattle.checker.proofs.machine.leg.Lts as lts
+use Rattle.checker.proofs.look.look.Reads as look-reads
+use Rattle.checker.proofs.machine.nothing.Reads as nothing-reads
+use Rattle.checker.proofs.machine.overdue.Reads as overdue-reads
+use Rattle.checker.proofs.machine.place.Reads as place-reads
+use Rattle.checker.proofs.paint.stretch.Reads as stretch-reads
+use Rattle.checker.proofs.turn.spend.Reads as spend-reads
+
+abbrev Inv-loop2 : tie.InvT-loop2
+Inv-loop2 policy from n requests loadings slots t rows s₀ k lag f₀ i₀ s f i = ?
+
+abbrev μ-loop2 : tie.MeasureT-loop2
+μ-loop2 policy from n requests loadings slots t rows s₀ k lag f₀ i₀ s f i = ?
+
+abbrev Inv-loop : tie.InvT-loop
+Inv-loop policy from n requests loadings slots₀ t rows s₀ k₀ slots s k = ?
+
+abbrev μ-loop : tie.MeasureT-loop
+μ-loop policy from n requests loadings slots₀ t rows s₀ k₀ slots s k = ?
+
+-- src/machine.rt:121:5
+loop-holds : tie.Need-loop-holds Inv-loop2 μ-loop2 Inv-loop μ-loop
+loop-holds c = ?
+
+-- src/machine.rt:123:13
+nothing-requires : tie.Need-nothing-requires Inv-loop2 μ-loop2 Inv-loop μ-loop
+nothing-requires c κs = ?
+
+-- src/machine.rt:125:9
+loop2-holds : tie.Need-loop2-holds Inv-loop2 μ-loop2 Inv-loop μ-loop
+loop2-holds c = ?
+
+-- src/machine.rt:126:47
+mul-look : tie.Need-mul-look Inv-loop2 μ-loop2 Inv-loop μ-loop
+mul-look c = ?
+
+-- src/machine.rt:126:47
+element-copy-out-look : tie.Need-element-copy-out-look Inv-loop2 μ-loop2 Inv-loop μ-loop
+element-copy-out-look c = ?
+
+-- src/machine.rt:126:58
+mul-look-2 : tie.Need-mul-look-2 Inv-loop2 μ-loop2 Inv-loop μ-loop
+mul-look-2 c = ?
+
+-- src/machine.rt:126:58
+element-copy-out-look-2 : tie.Need-element-copy-out-look-2 Inv-loop2 μ-loop2 Inv-loop μ-loop
+element-copy-out-look-2 c = ?
+
+-- src/machine.rt:126:74
+add-look : tie.Need-add-look Inv-loop2 μ-loop2 Inv-loop μ-loop
+add-look c = ?
+
+-- src/machine.rt:126:17
+look-requires : tie.Need-look-requires Inv-loop2 μ-loop2 Inv-loop μ-loop
+look-requires c κs = ?
+
+-- src/machine.rt:128:13
+mul-o : tie.Need-mul-o Inv-loop2 μ-loop2 Inv-loop μ-loop
+mul-o c = ?
+
+-- src/machine.rt:128:13
+element-set-from-o : tie.Need-element-set-from-o Inv-loop2 μ-loop2 Inv-loop μ-loop
+element-set-from-o c = ?
+
+-- src/machine.rt:130:13
+add-i : tie.Need-add-i Inv-loop2 μ-loop2 Inv-loop μ-loop
+add-i c = ?
+
+-- src/machine.rt:125:9
+loop2-less : tie.Need-loop2-less Inv-loop2 μ-loop2 Inv-loop μ-loop
+loop2-less c = ?
+
+-- src/machine.rt:125:9
+loop2-again : tie.Need-loop2-again Inv-loop2 μ-loop2 Inv-loop μ-loop
+loop2-again c = ?
+
+-- src/machine.rt:133:13
+same-length : tie.Need-same-length Inv-loop2 μ-loop2 Inv-loop μ-loop
+same-length c = ?
+
+-- src/machine.rt:133:13
+returns : tie.Need-returns Inv-loop2 μ-loop2 Inv-loop μ-loop
+returns c = ?
+
+-- src/machine.rt:141:13
+place-requires : tie.Need-place-requires Inv-loop2 μ-loop2 Inv-loop μ-loop
+place-requires c κs = ?
+
+-- src/machine.rt:142:17
+mul-r : tie.Need-mul-r Inv-loop2 μ-loop2 Inv-loop μ-loop
+mul-r c = ?
+
+-- src/machine.rt:142:17
+element-copy-out-r : tie.Need-element-copy-out-r Inv-loop2 μ-loop2 Inv-loop μ-loop
+element-copy-out-r c = ?
+
+-- src/machine.rt:144:39
+mul-spend : tie.Need-mul-spend Inv-loop2 μ-loop2 Inv-loop μ-loop
+mul-spend c = ?
+
+-- src/machine.rt:144:39
+element-copy-out-spend : tie.Need-element-copy-out-spend Inv-loop2 μ-loop2 Inv-loop μ-loop
+element-copy-out-spend c = ?
+
+-- src/machine.rt:144:96
+sub-spend : tie.Need-sub-spend Inv-loop2 μ-loop2 Inv-loop μ-loop
+sub-spend c = ?
+
+-- src/machine.rt:144:13
+spend-requires : tie.Need-spend-requires Inv-loop2 μ-loop2 Inv-loop μ-loop
+spend-requires c κs = ?
+
+-- src/machine.rt:146:39
+add-stretch : tie.Need-add-stretch Inv-loop2 μ-loop2 Inv-loop μ-loop
+add-stretch c = ?
+
+-- src/machine.rt:146:59
+cast-stretch : tie.Need-cast-stretch Inv-loop2 μ-loop2 Inv-loop μ-loop
+cast-stretch c = ?
+
+-- src/machine.rt:146:87
+cast-stretch-2 : tie.Need-cast-stretch-2 Inv-loop2 μ-loop2 Inv-loop μ-loop
+cast-stretch-2 c = ?
+
+-- src/machine.rt:146:9
+stretch-requires : tie.Need-stretch-requires Inv-loop2 μ-loop2 Inv-loop μ-loop
+stretch-requires c κs = ?
+
+-- src/machine.rt:150:9
+mul-job : tie.Need-mul-job Inv-loop2 μ-loop2 Inv-loop μ-loop
+mul-job c = ?
+
+-- src/machine.rt:150:9
+element-set-from-job : tie.Need-element-set-from-job Inv-loop2 μ-loop2 Inv-loop μ-loop
+element-set-from-job c = ?
+
+-- src/machine.rt:156:14
+cast-k : tie.Need-cast-k Inv-loop2 μ-loop2 Inv-loop μ-loop
+cast-k c = ?
+
+-- src/machine.rt:156:9
+add-k : tie.Need-add-k Inv-loop2 μ-loop2 Inv-loop μ-loop
+add-k c = ?
+
+-- src/machine.rt:121:5
+loop-less : tie.Need-loop-less Inv-loop2 μ-loop2 Inv-loop μ-loop
+loop-less c = ?
+
+-- src/machine.rt:121:5
+loop-again : tie.Need-loop-again Inv-loop2 μ-loop2 Inv-loop μ-loop
+loop-again c = ?
+
+-- src/machine.rt:158:9
+overdue-requires : tie.Need-overdue-requires Inv-loop2 μ-loop2 Inv-loop μ-loop
+overdue-requires c κs = ?
+
+-- src/machine.rt:111:1
+same-length-2 : tie.Need-same-length-2 Inv-loop2 μ-loop2 Inv-loop μ-loop
+same-length-2 c = ?
+
+-- src/machine.rt:111:1
+returns-2 : tie.Need-returns-2 Inv-loop2 μ-loop2 Inv-loop μ-loop
+returns-2 c = ?
+
+pub leg-spec : {M : Type 1} → statement M
+leg-spec =
+    tie.close
+    (tie.spec
+    Inv-loop2
+    μ-loop2
+    Inv-loop
+    μ-loop
+    loop-holds
+    nothing-requires
+    loop2-holds
+    mul-look
+    element-copy-out-look
+    mul-look-2
+    element-copy-out-look-2
+    add-look
+    look-requires
+    mul-o
+    element-set-from-o
+    add-i
+    loop2-less
+    loop2-again
+    same-length
+    returns
+    place-requires
+    mul-r
+    element-copy-out-r
+    mul-spend
+    element-copy-out-spend
+    sub-spend
+    spend-requires
+    add-stretch
+    cast-stretch
+    cast-stretch-2
+    stretch-requires
+    mul-job
+    element-set-from-job
+    cast-k
+    add-k
+    loop-less
+    loop-again
+    overdue-requires
+    same-length-2
+    returns-2)

@@ -1,0 +1,4 @@
+pub mod Paint
+pub mod Turns
+pub mod Machine
+pub mod Outcomes

@@ -1,0 +1,125 @@
+// The checker: verdict, responses, schedule and as run, the four replies of the product. Whatever the input, each has a reply,
+// and its contract is the definition of the rules. The C boundary and the programs use it.
+ghost use Rattle.rules.specs.Verdicts.{VerdictIs, ResponsesAre};
+ghost use Rattle.rules.specs.Schedules.{ScheduleIs, AsRunIs};
+use rules::ScheduleReply;
+use rules::Verdict;
+
+mod decide;
+mod look;
+mod machine;
+mod paint;
+mod turn;
+
+// Is the table on time under this policy? It spends an allowance of slots.
+pub fn verdict(policy: u32, allowance: u64, text: &[u8]) -> Verdict
+    ensures { λ r. ⌜ VerdictIs policy allowance (now (text .entry)) r ⌝ }
+{
+    if table::policy_wrong(policy) {
+        return Verdict::Refused {
+            number: 1,
+            place: 0,
+        };
+    }
+    let g = table::read_table(text);
+    let f = g.refusal;
+    if f.number != 0 {
+        return Verdict::Refused {
+            number: f.number,
+            place: f.place,
+        };
+    }
+    let t = g.table;
+    let o = decide::decide(t, policy, allowance);
+    o.verdict
+}
+
+// The verdict; if it is accepted, the lent numbers hold the worst responses in ascending id.
+pub fn responses(policy: u32, allowance: u64, text: &[u8], numbers: &mut [u32]) -> Verdict
+    ensures { λ r. ⌜ ResponsesAre policy allowance (now (text .entry)) (now (numbers .entry)) (now (numbers .exit)) r ⌝ }
+{
+    if table::policy_wrong(policy) {
+        return Verdict::Refused {
+            number: 1,
+            place: 0,
+        };
+    }
+    if table::responses_wrong(numbers.len()) {
+        return Verdict::Refused {
+            number: 2,
+            place: 0,
+        };
+    }
+    let g = table::read_table(text);
+    let f = g.refusal;
+    if f.number != 0 {
+        return Verdict::Refused {
+            number: f.number,
+            place: f.place,
+        };
+    }
+    let t = g.table;
+    let o = decide::decide(t, policy, allowance);
+    let v = o.verdict;
+    if decide::accepted(v) {
+        let s = o.state;
+        decide::write_worst(t.count, s, numbers);
+        return v;
+    }
+    v
+}
+
+// Two bytes a slot, id and kind, of the run with these requests and loading lengths.
+pub fn as_run(
+    policy: u32,
+    text: &[u8],
+    requests: &[u32],
+    loadings: &[u32],
+    slots: &mut [u8],
+) -> ScheduleReply
+    ensures { λ r. ⌜ AsRunIs policy (now (text .entry)) (now (requests .entry)) (now (loadings .entry)) (now (slots .entry)) (now (slots .exit)) r ⌝ }
+{
+    if table::policy_wrong(policy) {
+        return ScheduleReply::Refused {
+            number: 1,
+            place: 0,
+        };
+    }
+    if table::slots_wrong(slots.len()) {
+        return ScheduleReply::Refused {
+            number: 2,
+            place: 0,
+        };
+    }
+    let g = table::read_table(text);
+    let f = g.refusal;
+    if f.number != 0 {
+        return ScheduleReply::Refused {
+            number: f.number,
+            place: f.place,
+        };
+    }
+    let t = g.table;
+    let n = slots.len() / 2;
+    let s = machine::begin(t);
+    let q = machine::leg(t, policy, s, 0, n as u64, requests, loadings, slots);
+    let m = q.miss;
+    if 0 < m {
+        let from = q.ran as usize;
+        paint::fill(slots, from, n, 0, 3);
+        return ScheduleReply::Missed {
+            time: q.ran,
+            id: machine::id_of(t, m),
+        };
+    }
+    ScheduleReply::Filled
+}
+
+// Two bytes a slot, id and kind, of the schedule.
+pub fn schedule(policy: u32, text: &[u8], slots: &mut [u8]) -> ScheduleReply
+    ensures { λ r. ⌜ ScheduleIs policy (now (text .entry)) (now (slots .entry)) (now (slots .exit)) r ⌝ }
+{
+    let requests = [0u32; 1];
+    let loadings = [0u32; 1];
+    as_run(policy, text, &requests[..0], &loadings[..0], slots)
+}
