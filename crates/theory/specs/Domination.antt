@@ -87,7 +87,7 @@ module _ (c : ℕ → ℕ) (load : ℕ → ℕ → ℕ) (a b : State) (d : Dom c
       same′ : (j : ℕ) → b .last ≡ suc j → x j ≡ false → complete (release x e a) j ≡ false → (unless x (a .last) ≡ suc j) × (a .left ≤ b .left)
       same′ j u q v = let k = d .same j u (rw q at v) in (dropped-keep x (a .last) j k.0 q, k .1)
 
-  -- the loading of the task that both give the uniform to
+  -- the loading of the task that both give the slot to
   module _ (anti : (i m n : ℕ) → m ≤ n → load i n ≤ load i m) (la lb : ℕ → ℕ → ℕ) (low : (i m : ℕ) → la i m ≤ load i m)
       (high : (i m : ℕ) → load i m ≤ lb i m) where
     loading-own : (j : ℕ) → loading la a (suc j) ≤ load j (a .executed j)
@@ -98,7 +98,7 @@ module _ (c : ℕ → ℕ) (load : ℕ → ℕ → ℕ) (a b : State) (d : Dom c
         (λ e. let k = d .same j (eqb-true _ _ e) h in rw (e, eq-eqb (a .last) (suc j) k.0) (k .1))
         (λ e. rw e (omega (arith, loading-own j, anti j (b .executed j) (a .executed j) (d .ahead j h), high j (b .executed j))))
 
-  -- a uniform of p in A with l loading to do, of q in B with m
+  -- a slot of p in A with l loading to do, of q in B with m
   module _ (p q l m : ℕ) (both : (j : ℕ) → q ≡ suc j → complete a j ≡ false → (p ≡ suc j) × (l ≤ m)) (own : (j : ℕ) → p ≡ suc j → l ≤ load j (a .executed j)) where
     pub dom-slot : Dom c load (uniform a p l) (uniform b q m)
     dom-slot = record {
@@ -112,7 +112,7 @@ module _ (c : ℕ → ℕ) (load : ℕ → ℕ → ℕ) (a b : State) (d : Dom c
       side = λ j x. let k = dropped-is _ p j x in left-own (load j) l (a .executed j) (eqb p (suc j)) (own j k.0);
     }
 
-  -- the uniform that the machine gives
+  -- the slot that the machine gives
   pub dom-act : (n : ℕ) (r s : ℕ → ℕ) → ((i j : ℕ) → complete a i ≡ false → complete a j ≡ false → (r i ≤ r j) ↔ (s i ≤ s j))
       → ((i m n : ℕ) → m ≤ n → load i n ≤ load i m) → (la lb : ℕ → ℕ → ℕ) → ((i m : ℕ) → la i m ≤ load i m) → ((i m : ℕ) → load i m ≤ lb i m)
       → Dom c load (act n r la a) (act n s lb b)

@@ -81,7 +81,7 @@ module _ (n : ℕ) (s : State) (p l : ℕ) (below : p ≤ n) where
   last-more x k zero b needs e = refl
   last-more x k (suc j) b needs e = rw (e j b, needs j b)
 
-  -- one uniform more
+  -- one slot more
   slot-more : (x : State) (k : ℕ) → ((i : ℕ) → i < n → x .need i ≡ s .need i) → ((i : ℕ) → i < n → x .executed i ≡ s .executed i + gained p l k i)
       → Alike n (uniform x p (l - k)) (jump s p l (suc k))
   slot-more x k needs e = record { need = needs; executed = jump-more x k e; last = last-more x k p below needs (jump-more x k e); left = pred-less l k }
@@ -165,37 +165,38 @@ no-load : (load : ℕ → ℕ → ℕ) (s : State) (p : ℕ) → p ≡ 0 → loa
 no-load load s p e = rw e refl
 
 module _ (y : System) (pos : (i : ℕ) → i < y .tasks → 0 < y .row i .period) (c : ℕ → Choice) (t : ℕ) where
-  -- one uniform more, from the closed form of those before; s, p, l are what they are at t
-  more : (s : State) (p l k : ℕ) → First (rank y t) (complete s) (y .tasks) p → (p ≡ 0 → l ≡ 0) → ((i : ℕ) → i < y .tasks → complete s i ≡ false → y .row i .offset ≤ t)
-      → Quiet y t (suc (suc k)) → Busy s p l (suc k) → Alike (y .tasks) (run y c (t + suc k)) (jump s p l (suc k)) → Alike (y .tasks) (run y c (suc (t + suc k))) (jump s p l (suc (suc k)))
-  more s p l k f idle begun quiet busy m = rw (run-next y c (t + suc k), picked, loaded) (slot-more n s p l (first-le (rank y t) (complete s) n p f) x (suc k) (λ i h. j .need i h) (λ i h. j .executed i h))
-    where
-      n : ℕ
-      n = y .tasks
+  -- a slot later, from the closed form of those before; s, p, l are what they are at t: the same task has the slot, it is the
+  -- last, and its loading has gone on
+  module _ (s : State) (p l k : ℕ) (f : First (rank y t) (complete s) (y .tasks) p) (idle : p ≡ 0 → l ≡ 0)
+      (begun : (i : ℕ) → i < y .tasks → complete s i ≡ false → y .row i .offset ≤ t) (quiet : Quiet y t (suc (suc k))) (busy : Busy s p l (suc k))
+      (m : Alike (y .tasks) (run y c (t + suc k)) (jump s p l (suc k))) where
+    stay : jump s p l (suc k) .last ≡ p
+    stay = last-stays (y .tasks) s p l (first-le (rank y t) (complete s) (y .tasks) p f) (suc k) p refl busy
 
-      u : ℕ
-      u = t + suc k
+    later : Alike (y .tasks) (now y c (t + suc k)) (jump s p l (suc k))
+    later = joined-quiet (y .tasks) (joins y (t + suc k)) _ (run y c (t + suc k)) (jump s p l (suc k)) (λ i h. quiet i (t + suc k) h (omega arith) (omega arith))
+        (omega (arith, stay, first-le (rank y t) (complete s) (y .tasks) p f)) m
 
-      x : State
-      x = joined y (c u) u (run y c u)
+    same : (i : ℕ) → i < y .tasks → complete s i ≡ complete (now y c (t + suc k)) i
+    same i h = sym (jump-done (y .tasks) s p l (first-le (rank y t) (complete s) (y .tasks) p f) (suc k) busy i) ∙ (rw (later .need i h, later .executed i h))
 
-      stay : jump s p l (suc k) .last ≡ p
-      stay = last-stays n s p l (first-le (rank y t) (complete s) n p f) (suc k) p refl busy
+    ranks : (i : ℕ) → i < y .tasks → complete s i ≡ false → rank y t i ≡ rank y (t + suc k) i
+    ranks i h e = ap (y .key i) (sym (newest-quiet (y .row i) (pos i h) t (suc k) (begun i h e) (λ v a b. quiet i v h a (omega arith))))
 
-      j : Alike n x (jump s p l (suc k))
-      j = joined-quiet n (joins y u) _ (run y c u) (jump s p l (suc k)) (λ i h. quiet i u h (omega arith) (omega arith)) (omega (arith, stay, first-le (rank y t) (complete s) n p f)) m
+    picked : whose y c (t + suc k) ≡ p
+    picked = pick-is (rank y (t + suc k)) (complete (now y c (t + suc k))) (y .tasks) p
+        (first-moves (rank y t) (rank y (t + suc k)) (complete s) (complete (now y c (t + suc k))) (y .tasks) p same ranks f)
 
-      same : (i : ℕ) → i < n → complete s i ≡ complete x i
-      same i h = sym (jump-done n s p l (first-le (rank y t) (complete s) n p f) (suc k) busy i) ∙ (rw (j .need i h, j .executed i h))
+    loaded : loading (lengths y (c (t + suc k))) (now y c (t + suc k)) p ≡ l - suc k
+    loaded = loading-more (y .tasks) s p l (first-le (rank y t) (complete s) (y .tasks) p f) (lengths y (c (t + suc k))) (now y c (t + suc k)) (suc k) p refl idle
+        (later .last ∙ stay) (later .left)
 
-      ranks : (i : ℕ) → i < n → complete s i ≡ false → rank y t i ≡ rank y u i
-      ranks i h e = ap (y .key i) (sym (newest-quiet (y .row i) (pos i h) t (suc k) (begun i h e) (λ v a b. quiet i v h a (omega arith))))
+    goes-on : (whose y c (t + suc k) ≡ p) × (loads y c (t + suc k) ≡ l - suc k) × (now y c (t + suc k) .last ≡ p)
+    goes-on = (picked, ap (loading (lengths y (c (t + suc k))) (now y c (t + suc k))) picked ∙ loaded, later .last ∙ stay)
 
-      picked : pick (rank y u) (complete x) n ≡ p
-      picked = pick-is (rank y u) (complete x) n p (first-moves (rank y t) (rank y u) (complete s) (complete x) n p same ranks f)
-
-      loaded : loading (lengths y (c u)) x p ≡ l - suc k
-      loaded = loading-more n s p l (first-le (rank y t) (complete s) n p f) (lengths y (c u)) x (suc k) p refl idle (j .last ∙ stay) (j .left)
+    more : Alike (y .tasks) (run y c (suc (t + suc k))) (jump s p l (suc (suc k)))
+    more = rw (run-next y c (t + suc k), picked, loaded)
+        (slot-more (y .tasks) s p l (first-le (rank y t) (complete s) (y .tasks) p f) (now y c (t + suc k)) (suc k) (λ i h. later .need i h) (λ i h. later .executed i h))
 
   -- THE JUMP
   pub jumps : (k : ℕ) → Quiet y t (suc k) → Busy (now y c t) (whose y c t) (loads y c t) k
@@ -206,6 +207,13 @@ module _ (y : System) (pos : (i : ℕ) → i < y .tasks → 0 < y .row i .period
   jumps (suc k) quiet busy = rw (add-suc t (suc k)) (more (now y c t) (whose y c t) (loads y c t) k (pick-first (rank y t) (complete (now y c t)) (y .tasks))
       (no-load (lengths y (c t)) (now y c t) (whose y c t)) (λ i h e. incomplete y c t i e) quiet busy
       (jumps k (λ i u h a b. quiet i u h a (omega arith)) (λ j e. omega (arith, busy j e))))
+
+  -- within it, the slot stays with the same task, which is the last, and its loading goes on
+  pub inside : (k : ℕ) → Quiet y t (suc (suc k)) → Busy (now y c t) (whose y c t) (loads y c t) (suc k)
+      → (whose y c (t + suc k) ≡ whose y c t) × (loads y c (t + suc k) ≡ loads y c t - suc k) × (now y c (t + suc k) .last ≡ whose y c t)
+  inside k quiet busy = goes-on (now y c t) (whose y c t) (loads y c t) k (pick-first (rank y t) (complete (now y c t)) (y .tasks))
+      (no-load (lengths y (c t)) (now y c t) (whose y c t)) (λ i h e. incomplete y c t i e) quiet busy
+      (jumps k (λ i u h a b. quiet i u h a (omega arith)) (λ j e. omega (arith, busy j e)))
 
   -- within it, nobody's job is completed
   pub done-inside : (k i : ℕ) → i < y .tasks → Quiet y t (suc k) → Busy (now y c t) (whose y c t) (loads y c t) (suc k) → complete (run y c (t + suc k)) i ≡ complete (now y c t) i
@@ -230,7 +238,7 @@ module _ (y : System) (pos : (i : ℕ) → i < y .tasks → 0 < y .row i .period
       (λ e. rw e refl))
 
   -- FOR A LOOP: m slots at once, up to the next release, the next deadline of an incomplete task, or the completion of the task
-  -- that has the uniform; or any fewer
+  -- that has the slot; or any fewer
   pub event : (m : ℕ) → 0 < m → Quiet y t m → Busy (now y c t) (whose y c t) (loads y c t) (m - 1)
       → ((i v : ℕ) → i < y .tasks → complete (now y c t) i ≡ false → t < v → v < t + m → due (y .row i) v ≡ false)
       → Alike (y .tasks) (run y c (t + m)) (jump (now y c t) (whose y c t) (loads y c t) m) × ((v : ℕ) → t < v → v < t + m → missed y v (run y c v) ≡ 0)

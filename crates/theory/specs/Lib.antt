@@ -19,3 +19,4 @@ pub mod ScheduleReplies
 pub mod Counters
 pub mod Jump
 pub mod Completions
+pub mod Lists

@@ -22,7 +22,7 @@ earlierDeadline-repeats : Repeats earlierDeadline
 earlierDeadline-repeats h v w r s = omega arith
 
 pub policy-repeats : (n : ℕ) → Repeats (policy n)
-policy-repeats zero = fixed-repeats
+policy-repeats zero = earlierDeadline-repeats
 policy-repeats (suc zero) = fixed-repeats
 policy-repeats (suc (suc zero)) = shorterPeriod-repeats
 policy-repeats (suc (suc (suc zero))) = shorterDeadline-repeats

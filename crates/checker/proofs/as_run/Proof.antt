@@ -1,71 +1,103 @@
+-- `as_run`: three refusals, which write nothing; else a leg from time 0 and, after a miss, the marks.
+use mathlib.Core.Path.{sym, _∙_}
+use native.Mathlib.Omega.{arith}
 use borrow.Author.Needs.{needs}
+use Rattle.checker.proofs.InHand.{sound-read}
+use Rattle.checker.proofs.Written.{as-run-policy, as-run-slots, as-run-text, as-run-filled, as-run-missed}
 use Rattle.checker.proofs.as_run.Statement.{statement}
 use Rattle.checker.proofs.as_run.Tie as tie
-use Rattle.checker.proofs.as_run.Reads as reads
-use Rattle.checker.proofs.as_run.Lts as lts
-use Rattle.checker.proofs.machine.begin.Reads as begin-reads
-use Rattle.checker.proofs.machine.id_of.Reads as id-of-reads
-use Rattle.checker.proofs.machine.leg.Reads as leg-reads
-use Rattle.checker.proofs.paint.fill.Reads as fill-reads
-use Rattle.table.proofs.policy_wrong.Reads as policy-wrong-reads
-use Rattle.table.proofs.read_table.Reads as read-table-reads
-use Rattle.table.proofs.slots_wrong.Reads as slots-wrong-reads
 
--- src/lib.rt:80:8
 policy-wrong-requires : tie.Need-policy-wrong-requires
 policy-wrong-requires c κs = search needs
 
--- src/lib.rt:81:9
 returns : tie.Need-returns
-returns c = ?
+returns c =
+    let policy = c .before in
+    let a = policy .before .before .before .before .before .args in
+    as-run-policy (a .policy) (a .text .now) (a .requests .now) (a .loadings .now) (a .slots .now)
+    (sym (policy .policy-wrong .ensures) ∙ c .if1 .taken)
 
--- src/lib.rt:86:8
 slots-wrong-requires : tie.Need-slots-wrong-requires
 slots-wrong-requires c κs = search needs
 
--- src/lib.rt:87:9
 returns-2 : tie.Need-returns-2
-returns-2 c = ?
+returns-2 c =
+    let sized = c .before in
+    let policy = sized .before .before in
+    let a = policy .before .before .before .before .before .args in
+    as-run-slots (a .policy) (a .text .now) (a .requests .now) (a .loadings .now) (a .slots .now)
+    (sym (policy .policy-wrong .ensures) ∙ sized .before .if1 .left)
+    (sym (sized .slots-wrong .ensures) ∙ c .if2 .taken)
 
--- src/lib.rt:92:9
 read-table-requires : tie.Need-read-table-requires
 read-table-requires c κs = search needs
 
--- src/lib.rt:95:9
 returns-3 : tie.Need-returns-3
-returns-3 c = ?
+returns-3 c =
+    let read = c .before .before .before in
+    let sized = read .before .before in
+    let policy = sized .before .before in
+    let a = policy .before .before .before .before .before .args in
+    as-run-text (a .policy) (a .text .now) (a .requests .now) (a .loadings .now) (a .slots .now)
+    (sym (policy .policy-wrong .ensures) ∙ sized .before .if1 .left)
+    (sym (sized .slots-wrong .ensures) ∙ read .before .if2 .left)
+    (read .read-table .ensures) (c .if3 .taken)
 
--- src/lib.rt:102:9
 begin-requires : tie.Need-begin-requires
-begin-requires c κs = ?
+begin-requires c κs = sound-read _ (c .before .before .before .before .read-table .ensures) (c .before .if3 .left)
 
--- src/lib.rt:103:9
 leg-requires : tie.Need-leg-requires
-leg-requires c κs = ?
+leg-requires c κs =
+    let fine = c .before .before .before in
+    let read = fine .before .before .before in
+    let start = read .before .before .before .before .before .before .before .before .before in
+    (sound-read _ (read .read-table .ensures) (fine .if3 .left), (c .before .begin .ensures _ _ _, omega (arith, start .good .1 .1 .1 .1 .0)))
 
--- src/lib.rt:107:9
 fill-requires : tie.Need-fill-requires
 fill-requires c κs = search needs
 
--- src/lib.rt:110:17
 id-of-requires : tie.Need-id-of-requires
-id-of-requires c κs = ?
+id-of-requires c κs =
+    let went = c .before .before .before .before .before .before .before in
+    let fine = went .before .before .before .before in
+    let s = sound-read _ (fine .before .before .before .read-table .ensures) (fine .if3 .left) in
+    omega (arith, went .leg .ensures .0 .task, s .passed .few, s .count)
 
--- src/lib.rt:108:9
 same-length : tie.Need-same-length
 same-length c = search needs
 
--- src/lib.rt:108:9
 returns-4 : tie.Need-returns-4
-returns-4 c = ?
+returns-4 c =
+    let miss = c .before .before .before .before .before in
+    let went = miss .before .before .before in
+    let fine = went .before .before .before .before in
+    let read = fine .before .before .before in
+    let sized = read .before .before in
+    let policy = sized .before .before in
+    let a = policy .before .before .before .before .before .args in
+    as-run-missed (a .policy) (a .text .now) (a .requests .now) (a .loadings .now) (a .slots .now)
+    (sym (policy .policy-wrong .ensures) ∙ sized .before .if1 .left)
+    (sym (sized .slots-wrong .ensures) ∙ read .before .if2 .left)
+    (read .read-table .ensures) (fine .if3 .left)
+    (went .leg .result) (went .leg .ensures .0) (went .leg .ensures .1)
+    (c .id-of .result) (miss .if4 .taken) (c .id-of .ensures) (c .before .before .before .fill .ensures)
 
--- src/lib.rt:77:1
 same-length-2 : tie.Need-same-length-2
 same-length-2 c = search needs
 
--- src/lib.rt:77:1
 returns-5 : tie.Need-returns-5
-returns-5 c = ?
+returns-5 c =
+    let went = c .before .before .before in
+    let fine = went .before .before .before .before in
+    let read = fine .before .before .before in
+    let sized = read .before .before in
+    let policy = sized .before .before in
+    let a = policy .before .before .before .before .before .args in
+    as-run-filled (a .policy) (a .text .now) (a .requests .now) (a .loadings .now) (a .slots .now)
+    (sym (policy .policy-wrong .ensures) ∙ sized .before .if1 .left)
+    (sym (sized .slots-wrong .ensures) ∙ read .before .if2 .left)
+    (read .read-table .ensures) (fine .if3 .left)
+    (went .leg .result) (went .leg .ensures .0) (went .leg .ensures .1) (omega arith)
 
 pub as-run-spec : {M : Type 1} → statement M
 as-run-spec =

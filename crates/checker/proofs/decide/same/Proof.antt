@@ -1,62 +1,74 @@
+-- Rests on the loop's invariant: `ok` tells whether the executed slots are equal on the tasks passed.
+use mathlib.Core.Path.{_≡_, refl}
+use mathlib.Core.Bool.{Bool, true, false, cond}
+use Prim.Native.Nat.{ℕ, _+_, _-_, _≤_, _<_}
+use native.Mathlib.Omega.{arith}
+use borrow.Author.Count.{below-more}
+use borrow.Author.Needs.{needs}
+use borrow.Author.Tests.{eqb-true, eqb-false}
+use lib.Dec.{eqb}
+use Rattle.basics.specs.Cases.{test, clash}
+use Rattle.checker.specs.Machine.{jobOf}
 use Rattle.checker.proofs.decide.same.Statement.{statement}
 use Rattle.checker.proofs.decide.same.Tie as tie
-use Rattle.checker.proofs.decide.same.Reads as reads
-use Rattle.checker.proofs.decide.same.Lts as lts
-use Rattle.checker.proofs.decide.same_job.Reads as same-job-reads
+
+-- the Bool tells whether f and g agree below n
+abbrev Told : (ℕ → ℕ) → (ℕ → ℕ) → Bool → ℕ → Type 0
+Told f g ok n = (ok ≡ true → (k : ℕ) → k < n → f k ≡ g k) × (ok ≡ false → ((k : ℕ) → k < n → f k ≡ g k) → ⊥)
+
+told-turn : (f g : ℕ → ℕ) (ok : Bool) (i : ℕ) → Told f g ok i → Told f g (cond (eqb (f i) (g i)) ok false) (i + 1)
+told-turn f g ok i h = test (eqb (f i) (g i))
+    (λ e. rw e (λ o. below-more (λ k. f k ≡ g k) i (h .0 o) (eqb-true (f i) (g i) e), λ o all. h .1 o (λ k l. all k (omega arith))))
+    (λ e. rw e (λ o. clash o refl, λ o all. eqb-false (f i) (g i) e (all i (omega arith))))
 
 abbrev Inv-loop : tie.InvT-loop
-Inv-loop rows a b ok₀ i₀ ok i = ?
+Inv-loop rows a b ok₀ i₀ ok i = (i ≤ rows) × Told (λ k. jobOf a k .executed .0) (λ k. jobOf b k .executed .0) ok i
 
 abbrev μ-loop : tie.MeasureT-loop
-μ-loop rows a b ok₀ i₀ ok i = ?
+μ-loop rows a b ok₀ i₀ ok i = rows - i
 
--- src/decide.rt:47:5
 loop-holds : tie.Need-loop-holds Inv-loop μ-loop
-loop-holds c = ?
+loop-holds c = (search needs, (λ o k h. absurd (omega arith), λ o all. clash refl o))
 
--- src/decide.rt:48:23
 mul-same-job : tie.Need-mul-same-job Inv-loop μ-loop
-mul-same-job c = ?
+mul-same-job c = search needs
 
--- src/decide.rt:48:23
 element-copy-out-same-job : tie.Need-element-copy-out-same-job Inv-loop μ-loop
-element-copy-out-same-job c = ?
+element-copy-out-same-job c = search needs
 
--- src/decide.rt:48:34
 mul-same-job-2 : tie.Need-mul-same-job-2 Inv-loop μ-loop
-mul-same-job-2 c = ?
+mul-same-job-2 c = search needs
 
--- src/decide.rt:48:34
 element-copy-out-same-job-2 : tie.Need-element-copy-out-same-job-2 Inv-loop μ-loop
-element-copy-out-same-job-2 c = ?
+element-copy-out-same-job-2 c = search needs
 
--- src/decide.rt:48:9
 same-job-requires : tie.Need-same-job-requires Inv-loop μ-loop
-same-job-requires c κs = ?
+same-job-requires c κs = search needs
 
--- src/decide.rt:49:9
 add-i : tie.Need-add-i Inv-loop μ-loop
-add-i c = ?
+add-i c = search needs
 
--- src/decide.rt:47:5
 loop-less : tie.Need-loop-less Inv-loop μ-loop
-loop-less c = ?
+loop-less c = search needs
 
--- src/decide.rt:47:5
 loop-again : tie.Need-loop-again Inv-loop μ-loop
-loop-again c = ?
+loop-again c =
+    let at = c .before .before .before .before .loop in
+    let start = c .before .before .before .before .before .args in
+    (search needs, rw (c .same-job .ensures) (told-turn (λ k. jobOf (start .t2) k .executed .0) (λ k. jobOf (start .t3) k .executed .0) (at .ok) (at .i) (at .inv .1)))
 
--- src/decide.rt:53:13
 returns : tie.Need-returns Inv-loop μ-loop
-returns c = ?
+returns c =
+    let at = c .before .before .before .loop in
+    let whole : at .i ≡ c .before .before .before .before .args .rows = omega arith in
+    let told = rw whole at (at .inv .1) in
+    (λ o. record { executed = told .0 o; last = c .before .if1 .taken; left = c .if2 .taken }, λ o alike. told .1 o (alike .executed))
 
--- src/decide.rt:55:9
 returns-2 : tie.Need-returns-2 Inv-loop μ-loop
-returns-2 c = ?
+returns-2 c = (λ o. clash o refl, λ o alike. c .if2 .left (alike .left))
 
--- src/decide.rt:40:1
 returns-3 : tie.Need-returns-3 Inv-loop μ-loop
-returns-3 c = ?
+returns-3 c = (λ o. clash o refl, λ o alike. c .if1 .left (alike .last))
 
 pub same-spec : {M : Type 1} → statement M
 same-spec =

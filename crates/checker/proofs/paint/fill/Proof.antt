@@ -1,65 +1,57 @@
+-- `paint::fill`: the slots from the first up to u are painted, and u is at most the last asked for.
+use Prim.Native.Nat.{_+_, _-_, _≤_}
+use native.Mathlib.Omega.{arith}
+use borrow.Author.Needs.{needs}
+use lib.ListN.{length-set}
+use Rattle.checker.specs.Paint.{Painted}
+use Rattle.checker.proofs.Painted.{painted-none, painted-more, painted-end, painted-full}
 use Rattle.checker.proofs.paint.fill.Statement.{statement}
 use Rattle.checker.proofs.paint.fill.Tie as tie
-use Rattle.checker.proofs.paint.fill.Reads as reads
-use Rattle.checker.proofs.paint.fill.Lts as lts
 
 abbrev Inv-loop : tie.InvT-loop
-Inv-loop slots₀ from to id kind room u₀ slots u = ?
+Inv-loop slots₀ from to id kind room u₀ slots u = Painted (λ v. id) (λ v. kind) from u slots₀ slots × (from ≤ u) × (u ≤ from + (to - from))
 
 abbrev μ-loop : tie.MeasureT-loop
-μ-loop slots₀ from to id kind room u₀ slots u = ?
+μ-loop slots₀ from to id kind room u₀ slots u = to - u
 
--- src/paint.rt:12:5
 loop-holds : tie.Need-loop-holds Inv-loop μ-loop
-loop-holds c = ?
+loop-holds c = (painted-none _ _ _ (omega arith), omega arith, omega arith)
 
--- src/paint.rt:14:13
 same-length : tie.Need-same-length Inv-loop μ-loop
-same-length c = ?
+same-length c = search needs
 
--- src/paint.rt:14:13
 returns : tie.Need-returns Inv-loop μ-loop
-returns c = ?
+returns c = let at = c .before .before .loop in painted-full (at .inv .0) (omega arith) (omega arith) (omega arith)
 
--- src/paint.rt:16:15
 mul-slots : tie.Need-mul-slots Inv-loop μ-loop
-mul-slots c = ?
+mul-slots c = omega arith
 
--- src/paint.rt:16:9
 slice-write-slots : tie.Need-slice-write-slots Inv-loop μ-loop
-slice-write-slots c = ?
+slice-write-slots c = omega arith
 
--- src/paint.rt:17:15
 mul-slots-2 : tie.Need-mul-slots-2 Inv-loop μ-loop
-mul-slots-2 c = ?
+mul-slots-2 c = omega arith
 
--- src/paint.rt:17:15
 add-slots : tie.Need-add-slots Inv-loop μ-loop
-add-slots c = ?
+add-slots c = omega arith
 
--- src/paint.rt:17:9
 slice-write-slots-2 : tie.Need-slice-write-slots-2 Inv-loop μ-loop
-slice-write-slots-2 c = ?
+slice-write-slots-2 c = simp length-set (omega arith)
 
--- src/paint.rt:18:9
 add-u : tie.Need-add-u Inv-loop μ-loop
-add-u c = ?
+add-u c = omega arith
 
--- src/paint.rt:12:5
 loop-less : tie.Need-loop-less Inv-loop μ-loop
-loop-less c = ?
+loop-less c = omega arith
 
--- src/paint.rt:12:5
 loop-again : tie.Need-loop-again Inv-loop μ-loop
-loop-again c = ?
+loop-again c = (painted-more (c .before .before .loop .inv .0) (omega arith) (omega arith), omega arith, omega arith)
 
--- src/paint.rt:7:1
 same-length-2 : tie.Need-same-length-2 Inv-loop μ-loop
-same-length-2 c = ?
+same-length-2 c = search needs
 
--- src/paint.rt:7:1
 returns-2 : tie.Need-returns-2 Inv-loop μ-loop
-returns-2 c = ?
+returns-2 c = painted-end (c .before .loop .inv .0) (omega arith) (omega arith)
 
 pub fill-spec : {M : Type 1} → statement M
 fill-spec =

@@ -1,66 +1,58 @@
+-- `paint::stretch`: an idle stretch in one range, else the loading and then the execution.
 use borrow.Author.Needs.{needs}
+use Rattle.checker.proofs.Painted.{painted-idle, painted-busy}
 use Rattle.checker.proofs.paint.stretch.Statement.{statement}
 use Rattle.checker.proofs.paint.stretch.Tie as tie
-use Rattle.checker.proofs.paint.stretch.Reads as reads
-use Rattle.checker.proofs.paint.stretch.Lts as lts
-use Rattle.checker.proofs.paint.fill.Reads as fill-reads
-use Rattle.checker.proofs.paint.less.Reads as less-reads
 
--- src/paint.rt:37:9
 returns : tie.Need-returns
 returns c = search needs
 
--- src/paint.rt:40:27
 add-fill : tie.Need-add-fill
 add-fill c = search needs
 
--- src/paint.rt:40:9
 fill-requires : tie.Need-fill-requires
 fill-requires c κs = search needs
 
--- src/paint.rt:41:9
 same-length : tie.Need-same-length
 same-length c = search needs
 
--- src/paint.rt:41:9
 returns-2 : tie.Need-returns-2
-returns-2 c = ?
+returns-2 c =
+    let idle = c .before .before .before .before in
+    let a = idle .before .before .before .args in
+    painted-idle (a .from) (a .count) (a .at) (a .id) (a .load) (idle .if2 .taken) (c .before .before .fill .ensures)
 
--- src/paint.rt:43:9
 less-requires : tie.Need-less-requires
 less-requires c κs = search needs
 
--- src/paint.rt:44:16
 cast-byte : tie.Need-cast-byte
 cast-byte c = search needs
 
--- src/paint.rt:45:23
 add-fill-2 : tie.Need-add-fill-2
 add-fill-2 c = search needs
 
--- src/paint.rt:45:5
 fill-requires-2 : tie.Need-fill-requires-2
 fill-requires-2 c κs = search needs
 
--- src/paint.rt:46:17
 add-fill-3 : tie.Need-add-fill-3
 add-fill-3 c = search needs
 
--- src/paint.rt:46:27
 add-fill-4 : tie.Need-add-fill-4
 add-fill-4 c = search needs
 
--- src/paint.rt:46:5
 fill-requires-3 : tie.Need-fill-requires-3
 fill-requires-3 c κs = search needs
 
--- src/paint.rt:32:1
 same-length-2 : tie.Need-same-length-2
 same-length-2 c = search needs
 
--- src/paint.rt:32:1
 returns-3 : tie.Need-returns-3
-returns-3 c = ?
+returns-3 c =
+    let loads = c .before .before .before .before .before .before in
+    let l = loads .before .before in
+    let a = l .before .before .before .before .args in
+    painted-busy (a .from) (a .count) (a .at) (a .id) (a .load) (l .before .if2 .left)
+    (rw (l .less .ensures) at (loads .fill2 .ensures)) (rw (l .less .ensures) at (c .before .before .fill3 .ensures))
 
 pub stretch-spec : {M : Type 1} → statement M
 stretch-spec =

@@ -1,0 +1,9 @@
+pub mod InHand
+pub mod Jobs
+pub mod Marks
+pub mod Painted
+pub mod Pass
+pub mod Replied
+pub mod SoundTables
+pub mod Stretch
+pub mod Written

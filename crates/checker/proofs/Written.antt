@@ -1,0 +1,185 @@
+-- From a painted buffer to the bytes and the reply that the rules ask: `written-whole` for the bytes, one law for each end of
+-- `as_run`, and `schedule-as-run`. The idea: what follows slot t in the buffer is what the rules write from t on, by the slots that
+-- remain. Up to the first miss the two bytes of a slot are the run's, and from there on 0 and 3.
+use mathlib.Core.Path.{_≡_, refl, sym, ap, _∙_}
+use mathlib.Core.Logic.{_≢_, inl}
+use mathlib.Core.Bool.{true, false}
+use mathlib.Core.List.{List, [], _∷_}
+use Prim.Native.Nat.{ℕ, zero, suc, _+_, _-_, _*_, _/_, _%_, _≤_, _<_, pred}
+use native.Mathlib.Omega.{arith}
+use lib.Dec.{eqb}
+use lib.ListN.{getD, length, drop}
+use lib.Seq.{drop-cons, drop-length, getD-take}
+use borrow.Author.Tests.{eq-eqb, ne-eqb, eqb-true}
+use Rattle.rules.specs.declared.Refusal.{Refusal}
+use Rattle.rules.specs.declared.Row.{Row}
+use Rattle.rules.specs.declared.ScheduleReply.{ScheduleReply}
+use Rattle.rules.specs.declared.ScheduleReply.the-variants.{Filled, Missed, Refused}
+use Rattle.rules.specs.declared.Table.{Table}
+use Rattle.rules.specs.declared.TableRead.{TableRead}
+use Rattle.rules.specs.Policies as policies
+use Rattle.rules.specs.Slots.{Choice, who, toLoad, run}
+use Rattle.rules.specs.Decided.{missedAt}
+use Rattle.rules.specs.Checks.{policyWrong, slotsWrong, slotsRefusal, tableRead}
+use Rattle.rules.specs.AsRun.{listed}
+use Rattle.rules.specs.Schedules.{idByte, kindByte, marks, written, Writes, ScheduleIs, AsRunIs}
+use Rattle.rules.specs.Table.{noRow}
+use Rattle.rules.specs.Verdicts.{systemOf}
+use Rattle.theory.specs.AsRun.{listed-nothing}
+use Rattle.basics.specs.Cases.{test, le-case, clash}
+use Rattle.checker.specs.declared.machine.Stop.{Stop}
+use Rattle.checker.specs.Machine.{Sound, live, systemIn, choices, missAt, Went, PaintedRun}
+use Rattle.checker.specs.Paint.{Painted}
+use Rattle.checker.proofs.InHand.{sound-read, system-read}
+use Rattle.checker.proofs.Painted.{painted-none}
+
+-- THE BYTES
+
+drop-slot : (l : List ℕ) (t : ℕ) → t * 2 + 1 < length l → drop (t * 2) l ≡ getD l (t * 2) 0 ∷ getD l (t * 2 + 1) 0 ∷ drop (suc t * 2) l
+drop-slot l t h =
+    let e : t * 2 + 1 ≡ suc (t * 2) = omega arith in
+    let f : suc t * 2 ≡ suc (suc (t * 2)) = omega arith in
+    rw (e, f) (drop-cons l (t * 2) 0 (omega arith) ∙ ap (λ (r : List ℕ). getD l (t * 2) 0 ∷ r) (drop-cons l (suc (t * 2)) 0 (omega arith)))
+
+drop-end : (l : List ℕ) (n : ℕ) → length l ≡ n → drop n l ≡ []
+drop-end l n e = rw (← e) (drop-length l)
+
+module _ (n m : ℕ) {mid after : List ℕ} (size : length mid ≡ n * 2) (p : Painted (λ u. 0) (λ u. 3) m n mid after) where
+  marks-from : (d t : ℕ) → m ≤ t → t + d ≡ n → drop (t * 2) after ≡ marks d
+  unfolding marks
+  marks-from zero t low e = drop-end after (t * 2) (omega (arith, p .size))
+  marks-from (suc d) t low e = drop-slot after t (omega (arith, p .size))
+      ∙ rw (p .id t low (omega arith) (omega arith), p .kind t low (omega arith) (omega arith), marks-from d (suc t) (omega arith) (omega arith))
+
+module _ (y : policies.System) (c : ℕ → Choice) where
+  abbrev pub idAt : ℕ → ℕ
+  idAt u = idByte y (who y (c u) u (run y c u))
+
+  abbrev pub kindAt : ℕ → ℕ
+  kindAt u = kindByte (who y (c u) u (run y c u)) (toLoad y (c u) u (run y c u))
+
+  module _ (n m : ℕ) {before mid after : List ℕ} (size : length before ≡ n * 2) (clean : (u : ℕ) → u < m → missedAt y c u ≡ 0)
+      (miss : m < n → missedAt y c m ≢ 0) (p : Painted idAt kindAt 0 m before mid) (q : Painted (λ u. 0) (λ u. 3) m n mid after) where
+    written-from : (d t : ℕ) → t ≤ m → t + d ≡ n → drop (t * 2) after ≡ written y c t d
+    unfolding written
+    written-from zero t low e = drop-end after (t * 2) (omega (arith, p .size, q .size))
+    written-from (suc d) t low e = le-case m t
+        (λ h. let f : m ≡ t = omega arith in
+        rw (ne-eqb (missedAt y c t) 0 (rw f at (miss (omega arith)))) (marks-from n m (p .size ∙ size) q (suc d) t h e))
+        (λ h. rw (eq-eqb (missedAt y c t) 0 (clean t h)) (
+        drop-slot after t (omega (arith, p .size, q .size))
+        ∙ rw (
+          q .stays (t * 2) (inl (omega arith)),
+          p .id t (omega arith) h (omega arith),
+          q .stays (t * 2 + 1) (inl (omega arith)),
+          p .kind t (omega arith) h (omega arith),
+          written-from d (suc t) h (omega arith),
+        )))
+
+    -- the slots before m are the run's, and those from m on are marked, where the run misses a deadline at m
+    pub written-whole : m ≤ n → after ≡ written y c 0 n
+    written-whole h = written-from n 0 (omega arith) (omega arith)
+
+-- THE REPLY OF A TABLE IN HAND: a leg from time 0 over the slots there is room for
+
+any-default : (ws : List Row) (i : ℕ) (d e : Row) → i < length ws → getD ws i d ≡ getD ws i e
+any-default [] i d e h = absurd (omega arith)
+any-default (w ∷ ws) zero d e h = refl
+any-default (w ∷ ws) (suc i) d e h = any-default ws i d e (omega arith)
+
+-- the id of task m - 1, as the code reads it and as the rules do
+id-in : (t : Table) → Sound t → (m : ℕ) → 0 < m → m ≤ t .count → getD (t .rows) (m - 1) noRow .id ≡ policies.row (live t) (pred m) .id
+id-in t s m pos high =
+    let e : m - 1 ≡ pred m = omega arith in
+    let h : pred m < t .count = omega arith in
+    rw (e, ← (getD-take (t .count) (t .rows) (pred m) noRow h)) (ap (λ (w : Row). w .id) (any-default (live t) (pred m) noRow policies.blank (omega (arith, s .count))))
+
+slots-even : (n : ℕ) → slotsWrong n ≡ false → n ≡ n / 2 * 2
+slots-even n h = test (eqb (n % 2) 0) (λ e. omega (arith, eqb-true (n % 2) 0 e)) (λ e. clash refl (rw e at h))
+
+-- the system said in another way
+writes-in : {f : Refusal} {y z : policies.System} (xs zs : List ℕ) {before after : List ℕ} {r : ScheduleReply} → y ≡ z
+    → Writes f y (listed y xs zs) before after r → Writes f z (listed z xs zs) before after r
+writes-in xs zs e w = rw e at w
+
+module _ (p : ℕ) (t : Table) (xs zs : List ℕ) {before mid : List ℕ} (f : Refusal) (none : f .number ≡ 0) (even : length before ≡ length before / 2 * 2)
+    (q : Stop) (went : Went p t xs zs 0 (length before / 2) q) (painted : PaintedRun p t xs zs 0 (0 + q .ran) before mid) where
+  ran : 0 + q .ran ≡ q .ran
+  ran = omega arith
+
+  clean : (u : ℕ) → u < q .ran → missAt p t xs zs u ≡ 0
+  clean u h = went .clean u (omega arith)
+
+  end : q .miss ≡ missAt p t xs zs (q .ran)
+  end = rw ran at (went .end)
+
+  writes-filled : q .miss ≡ 0 → Writes f (systemIn p t) (choices p t xs zs) before mid Filled
+  writes-filled e =
+      let all = went .through e .0 in
+      record {
+        refused = λ h. absurd (h none);
+        filled = λ h. (
+          λ u low. le-case (q .ran) u (λ k. let w : q .ran ≡ u = omega arith in rw w at (sym end ∙ e)) (λ k. clean u k),
+          written-whole (systemIn p t) (choices p t xs zs) (length before / 2) (q .ran) even clean (λ k. absurd (omega arith)) (rw ran at painted)
+              (painted-none (λ u. 0) (λ u. 3) mid (omega arith)) (went .most),
+        );
+      }
+
+  writes-missed : Sound t → {after : List ℕ} (i : ℕ) → 0 < q .miss → i ≡ getD (t .rows) (q .miss - 1) noRow .id
+      → Painted (λ u. 0) (λ u. 3) (q .ran) (length before / 2) mid after → Writes f (systemIn p t) (choices p t xs zs) before after (Missed (q .ran) i)
+  writes-missed sound i e its marked =
+      let some : missAt p t xs zs (q .ran) ≢ 0 = λ z. omega (arith, end) in
+      record {
+        refused = λ h. absurd (h none);
+        filled = λ h. (
+          (
+            record { misses = some; before = clean },
+            went .most,
+            its ∙ id-in t sound (q .miss) e (went .task) ∙ ap (λ (m : ℕ). policies.row (live t) (pred m) .id) end,
+          ),
+          written-whole (systemIn p t) (choices p t xs zs) (length before / 2) (q .ran) even clean (λ k. some) (rw ran at painted) marked (went .most),
+        );
+      }
+
+-- AS RUN, of what the code has found
+
+module _ (p : ℕ) (s xs zs before : List ℕ) where
+  -- a refusal writes nothing
+  as-run-refused : (f : Refusal) → slotsRefusal p (length before) s ≡ f → f .number ≢ 0 → AsRunIs p s xs zs before before (Refused (f .number) (f .place))
+  as-run-refused f e some = record { refused = λ h. (rw e, refl); filled = λ h. absurd (some (rw e at h)) }
+
+  pub as-run-policy : policyWrong p ≡ true → AsRunIs p s xs zs before before (Refused 1 0)
+  as-run-policy e = as-run-refused (record { number = 1; place = 0 }) (rw e) (λ z. omega arith)
+
+  pub as-run-slots : policyWrong p ≡ false → slotsWrong (length before) ≡ true → AsRunIs p s xs zs before before (Refused 2 0)
+  as-run-slots e h = as-run-refused (record { number = 2; place = 0 }) (rw (e, h)) (λ z. omega arith)
+
+  module _ (policy : policyWrong p ≡ false) (slots : slotsWrong (length before) ≡ false) {g : TableRead} (read : g ≡ tableRead s) where
+    refusal : slotsRefusal p (length before) s ≡ g .refusal
+    refusal = rw (policy, slots) (ap (λ (r : TableRead). r .refusal) (sym read))
+
+    pub as-run-text : g .refusal .number ≢ 0 → AsRunIs p s xs zs before before (Refused (g .refusal .number) (g .refusal .place))
+    as-run-text some = as-run-refused (g .refusal) refusal some
+
+    module _ (fine : g .refusal .number ≡ 0) {mid : List ℕ} (q : Stop) (went : Went p (g .table) xs zs 0 (length before / 2) q)
+        (painted : PaintedRun p (g .table) xs zs 0 (0 + q .ran) before mid) where
+      none : slotsRefusal p (length before) s .number ≡ 0
+      none = ap (λ (f : Refusal). f .number) refusal ∙ fine
+
+      pub as-run-filled : q .miss ≡ 0 → AsRunIs p s xs zs before mid Filled
+      as-run-filled e = writes-in xs zs (system-read s read fine p)
+          (writes-filled p (g .table) xs zs _ none (slots-even (length before) slots) q went painted e)
+
+      pub as-run-missed : {after : List ℕ} (i : ℕ) → 0 < q .miss → i ≡ getD (g .table .rows) (q .miss - 1) noRow .id
+          → Painted (λ u. 0) (λ u. 3) (q .ran) (length before / 2) mid after → AsRunIs p s xs zs before after (Missed (q .ran) i)
+      as-run-missed i e its marked = writes-in xs zs (system-read s read fine p)
+          (writes-missed p (g .table) xs zs _ none (slots-even (length before) slots) q went painted (sound-read s read fine) i e its marked)
+
+-- THE SCHEDULE is as run with no list
+
+writes-as : {f : Refusal} {y : policies.System} {c d : ℕ → Choice} {before after : List ℕ} {r : ScheduleReply} → c ≡ d
+    → Writes f y c before after r → Writes f y d before after r
+writes-as e w = rw e at w
+
+pub schedule-as-run : (p : ℕ) (s before after : List ℕ) (r : ScheduleReply) → AsRunIs p s [] [] before after r → ScheduleIs p s before after r
+schedule-as-run p s before after r w = writes-as (listed-nothing (systemOf p s)) w
