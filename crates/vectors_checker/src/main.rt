@@ -7,10 +7,10 @@
 //     schedule POLICY LENGTH               lends LENGTH bytes, each 170
 //     as_run POLICY LENGTH                 the same
 //
-// In a text a round bracket opens and closes a row and a blank stands for its comma: (1 0 2 5 5 1 1 1). After a backslash h
-// stands for the header with its line end, r and n for CR and LF. A slot is written as its id and a letter for its kind: i idle,
-// l loading, e executing, m from the miss on, ? for a byte that is no kind. Where not every slot is written, or the length is
-// odd, a sum over all bytes follows.
+// In a text round brackets stand around a row and a blank for its comma: (1 0 2 5 5 1 1 1). After a backslash h stands for the
+// header with its line end, r and n for CR and LF, c for a hundred zeros. A slot is written as its id and a letter for its kind:
+// i idle, l loading, e executing, m from the miss on, ? for a byte that is no kind. Where not every slot is written, or the
+// length is odd, a sum over all bytes follows.
 ghost use Prim.Native.Nat.{_≤_, _<_};
 ghost use lib.ListN.{length};
 use libc::STDIN_FILENO;
@@ -31,10 +31,6 @@ const MOST_BYTES: usize = 65_538;
 
 // Slots that are written one by one.
 const SHOWN: usize = 48;
-
-fn wide(x: usize) -> u64 {
-    x as u64
-}
 
 fn word(bytes: &[u8]) {
     io::write_all(STDOUT_FILENO, bytes);
@@ -164,8 +160,9 @@ fn narrow(x: u64) -> u32 {
 fn fitting(x: u64, most: usize) -> usize
     ensures { λ r. ⌜ r ≤ most ⌝ }
 {
-    if x < wide(most) {
-        return x as usize;
+    let n = x as usize;
+    if n < most {
+        return n;
     }
     most
 }
@@ -304,6 +301,13 @@ fn put_code(buffer: &mut [u8; 5000], at: usize, c: u8) -> usize {
             b"id,offset,wcet,deadline,period,start,resume,priority\r\n",
         );
     }
+    if c == b'c' {
+        return append(
+            buffer,
+            at,
+            b"0000000000000000000000000000000000000000000000000000000000000000000000000000000000000000000000000000",
+        );
+    }
     if c == b'r' {
         return push(buffer, at, b'\r');
     }
@@ -402,13 +406,7 @@ fn with_lists(
 ) {
     if asked <= NUMBERS {
         if begun <= NUMBERS {
-            as_run(
-                policy,
-                text,
-                length,
-                &requests[..asked],
-                &loadings[..begun],
-            );
+            as_run(policy, text, length, &requests[..asked], &loadings[..begun]);
         }
     }
 }
