@@ -1,6 +1,5 @@
 // Runs the table's reader over texts whose replies document 01 settles, and writes one line for each: the reason, and then
 // number and place of the refusal, or 0 0, the count of rows, Omax, H and the ids in order. No crate uses it.
-ghost use Prim.Native.Nat.{_≤_};
 use libc::STDOUT_FILENO;
 use rules::Row;
 use rules::Table;
@@ -52,34 +51,34 @@ fn text(reason: &[u8], text: &[u8]) {
     io::write_all(STDOUT_FILENO, b"\n");
 }
 
-// A part put into the text from a place on, as far as there is room; the place after it.
-fn append(text: &mut [u8; 5000], from: usize, part: &[u8]) -> usize
-    ensures { λ r. ⌜ r ≤ 5000 ⌝ }
-{
-    if ROOM < from {
-        return ROOM;
-    }
+// A part put into the buffer from a place on, as far as there is room; the place after it.
+fn append(buffer: &mut [u8; 5000], from: usize, part: &[u8]) -> usize {
     let mut at = from;
     let mut i: usize = 0;
     while i < part.len() {
         if ROOM <= at {
-            return ROOM;
+            return at;
         }
-        text[at] = part[i];
+        buffer[at] = part[i];
         at += 1;
         i += 1;
     }
     at
 }
 
-fn header(text: &mut [u8; 5000]) -> usize
-    ensures { λ r. ⌜ r ≤ 5000 ⌝ }
-{
+fn header(buffer: &mut [u8; 5000]) -> usize {
     append(
-        text,
+        buffer,
         0,
         b"id,offset,wcet,deadline,period,start,resume,priority\r\n",
     )
+}
+
+// The reply to the first n bytes.
+fn part(reason: &[u8], buffer: [u8; 5000], n: usize) {
+    if n <= ROOM {
+        text(reason, &buffer[..n]);
+    }
 }
 
 // The reply to the header and these lines.
@@ -87,7 +86,7 @@ fn rows(reason: &[u8], lines: &[u8]) {
     let mut buffer = [0u8; 5000];
     let h = header(&mut buffer);
     let n = append(&mut buffer, h, lines);
-    text(reason, &buffer[..n]);
+    part(reason, buffer, n);
 }
 
 // The reply to the first n bytes of the header and one row again and again.
@@ -99,9 +98,7 @@ fn long(reason: &[u8], n: usize) {
         at = append(&mut buffer, at, b"1,0,1,2,2,0,0,1\r\n");
         turns += 1;
     }
-    if n <= ROOM {
-        text(reason, &buffer[..n]);
-    }
+    part(reason, buffer, n);
 }
 
 // Line 1, and texts without rows.
