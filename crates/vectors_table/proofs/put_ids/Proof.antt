@@ -1,32 +1,14 @@
--- `vectors_table::put_table` ends, within the rows.
+-- `vectors_table::put_ids` ends, within the rows.
 use Prim.Native.Nat.{_-_, _≤_}
 use borrow.Author.Needs.{needs}
-use Rattle.vectors_table.proofs.put_table.Statement.{statement}
-use Rattle.vectors_table.proofs.put_table.Tie as tie
+use Rattle.vectors_table.proofs.put_ids.Statement.{statement}
+use Rattle.vectors_table.proofs.put_ids.Tie as tie
 
 abbrev Inv-loop : tie.InvT-loop
 Inv-loop t n i₀ i = i ≤ 16
 
 abbrev μ-loop : tie.MeasureT-loop
 μ-loop t n i₀ i = 16 - i
-
-wide-requires : tie.Need-wide-requires Inv-loop μ-loop
-wide-requires c κs = search needs
-
-put-requires : tie.Need-put-requires Inv-loop μ-loop
-put-requires c κs = search needs
-
-cast-put : tie.Need-cast-put Inv-loop μ-loop
-cast-put c = search needs
-
-put-requires-2 : tie.Need-put-requires-2 Inv-loop μ-loop
-put-requires-2 c κs = search needs
-
-cast-put-2 : tie.Need-cast-put-2 Inv-loop μ-loop
-cast-put-2 c = search needs
-
-put-requires-3 : tie.Need-put-requires-3 Inv-loop μ-loop
-put-requires-3 c κs = search needs
 
 loop-holds : tie.Need-loop-holds Inv-loop μ-loop
 loop-holds c = search needs
@@ -55,18 +37,12 @@ loop-again c = search needs
 returns-2 : tie.Need-returns-2 Inv-loop μ-loop
 returns-2 c = search needs
 
-pub put-table-spec : {M : Type 1} → statement M
-put-table-spec =
+pub put-ids-spec : {M : Type 1} → statement M
+put-ids-spec =
     tie.close
     (tie.spec
     Inv-loop
     μ-loop
-    wide-requires
-    put-requires
-    cast-put
-    put-requires-2
-    cast-put-2
-    put-requires-3
     loop-holds
     returns
     mul-r
