@@ -1,12 +1,11 @@
 -- `csv::read_row` reads the line at the front: at each turn the fields read and those to come are the line's fields.
 use mathlib.Core.Bool.{true}
-use lib.ListN.{length-drop}
+use lib.ListN.{length-drop, length}
 use borrow.Author.Tests.{not-true, not-false}
 use mathlib.Core.Path.{_≡_, refl, sym, ap, _∙_}
 use Prim.Native.Nat.{_-_}
 use native.Mathlib.Omega.{arith}
 use borrow.Author.Needs.{needs}
-use lib.ListN.{length}
 use Rattle.rules.specs.Text.{number}
 use Rattle.csv.specs.Reader.{kindAt, fits}
 use Rattle.csv.specs.declared.Ending.{Ending}

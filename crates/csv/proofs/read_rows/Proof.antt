@@ -1,10 +1,9 @@
 -- `csv::read_rows` reads the whole text: at each turn the lines read and those to come are the text's lines.
-use Rattle.csv.proofs.Lines.{row-less}
+use Rattle.csv.proofs.Lines.{row-less, Taking, none-refused, taking-start, taking-bad, taking-turn, taking-done}
 use native.Mathlib.Omega.{arith}
 use borrow.Author.Needs.{needs}
 use borrow.Author.Tests.{not-true, not-false}
 use lib.ListN.{length}
-use Rattle.csv.proofs.Lines.{Taking, none-refused, taking-start, taking-bad, taking-turn, taking-done}
 use Rattle.csv.proofs.read_rows.Statement.{statement}
 use Rattle.csv.proofs.read_rows.Tie as tie
 
