@@ -47,7 +47,7 @@ static const struct tried all_tried[] = {
       false, { REF_ACCEPTED, 26, 0 }, { 2, 1 } },
     { "the same, and no cycle is reached by Omax + 2H", 2,
       { { 1, 0, 3, 10, 10, 1, 1, 1 }, { 2, 3, 1, 5, 5, 2, 0, 2 } },
-      false, { REF_ACCEPTED, 43, 0 }, { 0, 0 } },
+      false, { REF_ACCEPTED, 43, 0 }, { 6, 5 } },
 };
 enum { TRIED = sizeof all_tried / sizeof all_tried[0] };
 
