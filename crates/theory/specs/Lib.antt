@@ -20,3 +20,4 @@ pub mod Counters
 pub mod Jump
 pub mod Completions
 pub mod Lists
+pub mod Texts
