@@ -21,3 +21,4 @@ pub mod Jump
 pub mod Completions
 pub mod Lists
 pub mod Texts
+pub mod Reordered
