@@ -9,7 +9,6 @@ use Prim.Native.Nat.{ℕ, suc, _+_, _-_, _*_, _≤_, _<_, pred}
 use native.Mathlib.Nat.{zero-add, mul-le-mul-right}
 use native.Mathlib.Omega.{arith}
 use lib.ListN.{getD}
-use Rattle.rules.specs.declared.Row.{Row}
 use Rattle.rules.specs.declared.Table.{Table}
 use Rattle.rules.specs.declared.Verdict.the-variants.{Accepted, Undecided}
 use Rattle.rules.specs.Table.{noRow}

@@ -1,9 +1,10 @@
--- Replies by computation: a test that passes proves the reply as document 01 words it. Assumes nothing.
+-- Worked tables by computation: a test that computes, and the law that a table which passes it has the reply as the rules word it. The
+-- test computes the twin; that the twin is the relation is `Decides`.
 use mathlib.Core.Path.{_≡_, sym, _∙_}
 use mathlib.Core.Logic.{inl, inr}
 use mathlib.Core.Bool.{Bool, true, _&&_}
 use mathlib.Core.List.{List, [], _∷_}
-use Prim.Native.Nat.{ℕ, zero, suc, _+_, _*_, _≤_, pred}
+use Prim.Native.Nat.{ℕ, zero, suc, _+_, _*_, _≤_}
 use native.Mathlib.Omega.{arith}
 use borrow.Author.Tests.{eqb-true, leb-true, ltb-true}
 use lib.Dec.{eqb, leb, ltb}

@@ -1,7 +1,7 @@
 -- Reordering the rows changes no reply: if the lines of two texts are well formed and their rows are permutations of each other,
 -- the four replies to them are equal, with what they leave in lent memory. Both texts are read as the same table; so a reply to
 -- one meets the contract of the other, and two replies that meet a contract are equal.
-use mathlib.Core.Path.{_≡_, refl, sym, ap, _∙_, subst}
+use mathlib.Core.Path.{_≡_, subst}
 use mathlib.Core.Bool.{Bool, true, false}
 use mathlib.Core.List.{List}
 use Prim.Native.Nat.{ℕ, suc, _≤_}
@@ -10,7 +10,6 @@ use lib.ListN.{length}
 use Rattle.rules.specs.declared.Row.{Row}
 use Rattle.rules.specs.declared.Refusal.{Refusal}
 use Rattle.rules.specs.declared.Verdict.{Verdict}
-use Rattle.rules.specs.declared.Verdict.the-variants.{Refused}
 use Rattle.rules.specs.declared.ScheduleReply.{ScheduleReply}
 use Rattle.rules.specs.Text.{badLine, rowsOf}
 use Rattle.rules.specs.Table.{omax, hyper}

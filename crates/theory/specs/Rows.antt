@@ -1,4 +1,5 @@
--- A table that passes the checks meets what the laws ask, under every policy whose comparisons repeat. Assumes nothing.
+-- A table that passes the checks meets what the laws ask, under every policy whose comparisons repeat; so slots needed exists, once,
+-- and is at most 2^48. Check 12 stands apart, as a profile may replace it.
 use mathlib.Core.Path.{_≡_}
 use mathlib.Core.Bool.{true}
 use mathlib.Core.List.{List, [], _∷_}

@@ -1,24 +1,23 @@
 -- The demands, of texts: what holds of every text that passes the checks, under every policy. Each theorem here is a sentence of
 -- demand 2 or 3; the laws behind them are those of the other files.
-use mathlib.Core.Path.{_≡_, refl, sym, ap, _∙_}
+use mathlib.Core.Path.{_≡_, ap}
 use mathlib.Core.Logic.{_≢_}
 use mathlib.Core.Bool.{false}
 use mathlib.Core.List.{List, [], _∷_}
-use Prim.Native.Nat.{ℕ, zero, suc, _^_, _≤_, _<_}
+use Prim.Native.Nat.{ℕ, _^_, _≤_, _<_}
 use native.Mathlib.Omega.{arith}
-use lib.ListN.{getD, length}
+use lib.ListN.{length}
 use Rattle.rules.specs.declared.Row.{Row}
-use Rattle.rules.specs.declared.Refusal.{Refusal}
 use Rattle.rules.specs.declared.Verdict.{Verdict}
-use Rattle.rules.specs.declared.Verdict.the-variants.{Accepted, Missed, Undecided, Refused}
-use Rattle.rules.specs.Text.{badLine, rowsOf}
+use Rattle.rules.specs.declared.Verdict.the-variants.{Accepted, Undecided}
+use Rattle.rules.specs.Text.{rowsOf}
 use Rattle.rules.specs.Table.{noRow, omax, hyper}
 use Rattle.rules.specs.Checks.{tableRead}
-use Rattle.rules.specs.Policies.{blank, policy, row, system}
+use Rattle.rules.specs.Policies.{blank, policy, row}
 use Rattle.rules.specs.Slots.{Choice, onTime, run, stated}
-use Rattle.rules.specs.Decided.{missedAt, NeverMissed, SlotsNeeded}
+use Rattle.rules.specs.Decided.{missedAt, NeverMissed}
 use Rattle.rules.specs.AsRun.{listed}
-use Rattle.rules.specs.Verdicts.{tasksOf, systemOf, missedId, plain, Decides}
+use Rattle.rules.specs.Verdicts.{tasksOf, systemOf, missedId, Decides}
 use Rattle.rules.specs.Demands.{KeepsTime}
 use Rattle.basics.specs.Cases.{eq-case}
 use Rattle.basics.specs.Lists.{any-default}
@@ -26,10 +25,9 @@ use Rattle.reordering.specs.All.{All}
 use Rattle.reordering.specs.Canonical.{canonical-length}
 use Rattle.reordering.specs.Passed.{Fine, Passed, passed, passed-canonical, fine-at, ids-rise}
 use Rattle.theory.specs.Policies.{policy-repeats}
-use Rattle.theory.specs.Rows.{Fits, Passes, Valid, shorts, quicks, needed, at-most}
-use Rattle.theory.specs.Twin.{slots}
+use Rattle.theory.specs.Rows.{Fits, Valid, shorts, quicks, at-most}
 use Rattle.theory.specs.Demand3.{keeps-time}
-use Rattle.theory.specs.Replies.{never-accepted, undecided-exceeds, missed-smallest}
+use Rattle.theory.specs.Replies.{never-accepted, missed-smallest}
 
 -- ROWS THAT PASS meet what the theory asks
 

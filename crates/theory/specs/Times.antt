@@ -1,4 +1,5 @@
--- Releases, newest releases and deadlines repeat with a number of slots that every period divides. Assumes nothing.
+-- Releases, newest releases and deadlines repeat with a number of slots that every period divides. All arithmetic of remainders
+-- comes from two lemmas, `mod-turn` and `no-rest`. And the hypotheses that the other files ask of a table.
 use mathlib.Core.Path.{_≡_, sym, _∙_}
 use mathlib.Core.Logic.{_↔_}
 use mathlib.Core.Bool.{true, false}
