@@ -1,15 +1,14 @@
 -- A turn of the loop over events, and its two ends: at a miss, and after the last slot. `machine::leg` cites them.
-use mathlib.Core.Path.{_≡_, refl, sym, ap, _∙_}
+use mathlib.Core.Path.{_≡_, sym, _∙_}
 use mathlib.Core.Bool.{not}
 use mathlib.Core.List.{List}
-use Prim.Native.Nat.{ℕ, zero, suc, _+_, _-_, _≤_, _<_}
+use Prim.Native.Nat.{ℕ, _+_, _-_, _≤_, _<_}
 use native.Mathlib.Omega.{arith}
 use lib.ListN.{getD}
 use Rattle.rules.specs.declared.Table.{Table}
 use Rattle.rules.specs.Table.{noRow}
 use Rattle.rules.specs.Slots.{complete}
 use Rattle.checker.specs.declared.machine.State.{State}
-use Rattle.checker.specs.declared.machine.Stop.{Stop}
 use Rattle.checker.specs.declared.look.Found.{Found}
 use Rattle.checker.specs.declared.turn.Spent.{Spent}
 use Rattle.checker.specs.Turns.{spentOf}

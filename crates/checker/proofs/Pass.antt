@@ -3,12 +3,12 @@
 -- Both of the rules' picks recur on the number of tasks as the loop does, so each row is one step of them.
 use mathlib.Core.Path.{_≡_, refl, sym, ap, _∙_, subst}
 use mathlib.Core.Bool.{Bool, true, false, cond, not}
-use mathlib.Core.List.{List, [], _∷_}
+use mathlib.Core.List.{List, []}
 use Prim.Native.Nat.{ℕ, zero, suc, _+_, _-_, _≤_, _<_, min, pred}
 use native.Mathlib.Omega.{arith}
 use native.Mathlib.Nat.{add-zero}
 use native.Mathlib.Numerals.{add-one}
-use borrow.Author.Tests.{eqb-true, eqb-false, eq-eqb, ne-eqb, lt-ltb, le-ltb, le-leb, lt-leb, ltb-true, ltb-false, leb-true, leb-false}
+use borrow.Author.Tests.{eqb-false, lt-ltb, le-ltb, le-leb, lt-leb}
 use lib.Dec.{eqb, ltb, leb, eqb·suc-zero}
 use lib.ListN.{getD, drop, length, set, length-set}
 use lib.Seq.{getD-drop, getD-set-same, getD-set-other, drop-drop, drop-nil, drop-length}
@@ -17,20 +17,21 @@ use Rattle.rules.specs.declared.Table.{Table}
 use Rattle.rules.specs.Table.{noRow}
 use Rattle.rules.specs.Policies.{row}
 use Rattle.rules.specs.Slots as rules
-use Rattle.rules.specs.Slots.{released, complete, onTime, first, pick, joins, requests}
+use Rattle.rules.specs.Slots.{released, complete, first, pick, joins, requests}
 use Rattle.rules.specs.AsRun.{one, before, asRun}
 use Rattle.basics.specs.Cases.{test, le-case, eq-case, clash}
 use Rattle.theory.specs.Counters.{until, released-until}
 use Rattle.theory.specs.Jump.{now}
 use Rattle.slots.specs.declared.Job.{Job}
 use Rattle.slots.specs.declared.Best.{Best}
-use Rattle.slots.specs.Jobs.{usedOf, waits, releasedOf, joinedOf, lateOf, missedOf, keyOf, firstOf, reachOf}
+use Rattle.slots.specs.Jobs.{usedOf, waits, releasedOf, joinedOf, lateOf, missedOf, keyOf, reachOf}
 use Rattle.checker.specs.declared.machine.State.{State}
 use Rattle.checker.specs.declared.look.Found.{Found}
 use Rattle.checker.specs.declared.look.Looked.{Looked}
 use Rattle.checker.specs.Turns.{noneFound, lookedOf}
 use Rattle.checker.specs.Machine.{live, Sound, systemIn, choices, stateAt, noJob, jobOf, JobAt, At}
-use Rattle.checker.proofs.Jobs.{row-in, fine-in, missed-turn, count-top}
+use Rattle.checker.proofs.SoundTables.{row-in, fine-in, count-top}
+use Rattle.checker.proofs.Jobs.{missed-turn}
 
 -- COUNTDOWNS
 

@@ -3,12 +3,12 @@
 -- completion at the latest. So the state in hand stands for the run at their end, and the bytes painted are the run's.
 use mathlib.Core.Path.{_≡_, refl, sym, ap, _∙_, subst}
 use mathlib.Core.Logic.{_↔_, _≢_}
-use mathlib.Core.Bool.{Bool, true, false, cond, not, _&&_}
-use mathlib.Core.List.{List, [], _∷_}
+use mathlib.Core.Bool.{Bool, true, false, cond}
+use mathlib.Core.List.{List}
 use Prim.Native.Nat.{ℕ, zero, suc, _+_, _-_, _%_, _≤_, _<_, min, max}
 use native.Mathlib.Omega.{arith}
 use native.Mathlib.Nat.{zero-add, mod-eq-of-lt}
-use borrow.Author.Tests.{eqb-true, eqb-false, eq-eqb, ne-eqb, lt-ltb, le-ltb, le-leb, lt-leb, ltb-true, ltb-false, leb-true, leb-false}
+use borrow.Author.Tests.{eqb-false, eq-eqb, ne-eqb, lt-ltb, le-ltb, le-leb, lt-leb, ltb-true, ltb-false, leb-true, leb-false}
 use lib.Dec.{eqb, ltb, leb, eqb·suc-zero}
 use lib.ListN.{getD, drop, length, set, length-set}
 use lib.Seq.{getD-drop, getD-set-same, getD-set-other}
@@ -31,16 +31,17 @@ use Rattle.theory.specs.Lists.{requests-next, loadings-next, requests-stay, loa
 use Rattle.theory.specs.Completions.{Seen, seen-served, seen-other}
 use Rattle.slots.specs.declared.Job.{Job}
 use Rattle.slots.specs.declared.Served.{Served}
-use Rattle.slots.specs.Jobs.{usedOf, continuesOf, delayOf, begunOf, roomOf, servedOf}
+use Rattle.slots.specs.Jobs.{usedOf, continuesOf, delayOf, roomOf, servedOf}
 use Rattle.checker.specs.declared.machine.State.{State}
 use Rattle.checker.specs.declared.look.Found.{Found}
 use Rattle.checker.specs.declared.turn.Spent.{Spent}
 use Rattle.checker.specs.Turns.{clipOf, beginsOf, loadOf, spentOf}
-use Rattle.checker.specs.Machine.{live, Sound, systemIn, choices, stateAt, missAt, noJob, jobOf, JobAt, At, PaintedRun}
+use Rattle.checker.specs.Machine.{live, Sound, systemIn, choices, stateAt, missAt, noJob, jobOf, At, PaintedRun}
 use Rattle.checker.specs.Paint.{Painted, stretchId, stretchKind}
-use Rattle.checker.proofs.Jobs.{row-in, fine-in, count-top, pick-top}
+use Rattle.checker.proofs.SoundTables.{row-in, fine-in, count-top}
+use Rattle.checker.proofs.Jobs.{pick-top}
 use Rattle.checker.proofs.Painted.{painted-as}
-use Rattle.checker.proofs.Pass.{until-release, until-go, JoinedAt, Reaches, used-drop, nowIn, keyWith, keys, Picked, Passing}
+use Rattle.checker.proofs.Pass.{until-release, until-go, JoinedAt, used-drop, nowIn, keyWith, keys, Passing}
 
 -- WHO HAS THE SLOT: keys order incomplete tasks as ranks do
 

@@ -10,7 +10,7 @@ use native.Mathlib.Omega.{arith}
 use lib.Dec.{eqb, ltb}
 use lib.ListN.{length, take, drop, getD, set, replicate, length-drop, length-append, drop-of-length-le, length-take}
 use lib.Seq.{drop-cons, take-append-le, take-set-lt, set-append-seam, set-out}
-use borrow.Author.Tests.{eq-eqb, ne-eqb, eqb-true, ltb-true, ltb-false}
+use borrow.Author.Tests.{eq-eqb, ne-eqb, ltb-true, ltb-false}
 use Rattle.rules.specs.Table.{noRow, padded}
 use Rattle.rules.specs.Text.{nil, breaks, opened, lines, wellFormed, rowOf, header, same, firstBad, badLine, rowsOf}
 use Rattle.csv.specs.Reader.{line, after, stop, width, begins, headAt, keptOf, keepOf, readingOf, rowAt}

@@ -231,9 +231,6 @@ module _ (rows : List Row) (p : Passed rows) where
   pub ids-differ : (i j : ℕ) → i < length rows → j < length rows → i ≢ j → getD rows i noRow .id ≢ getD rows j noRow .id
   ids-differ = differ 7 rows (p .id-once)
 
-  pub priorities-differ : (i j : ℕ) → i < length rows → j < length rows → i ≢ j → getD rows i noRow .priority ≢ getD rows j noRow .priority
-  priorities-differ = differ 10 rows (p .priority-once)
-
 -- in the canonical form a later place has a larger id
 pub ids-rise : (rows : List Row) → Passed rows → (i j : ℕ) → i < j → j < length rows → getD (canonical rows) i noRow .id < getD (canonical rows) j noRow .id
 ids-rise rows p i j h k =

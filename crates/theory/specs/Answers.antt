@@ -1,9 +1,10 @@
--- Replies by computation: a test that passes proves the reply as document 01 words it. Assumes nothing.
+-- Worked tables by computation: a test that computes, and the law that a table which passes it has the reply as the rules word it. The
+-- test computes the twin; that the twin is the relation is `Decides`.
 use mathlib.Core.Path.{_≡_, sym, _∙_}
 use mathlib.Core.Logic.{inl, inr}
 use mathlib.Core.Bool.{Bool, true, _&&_}
 use mathlib.Core.List.{List, [], _∷_}
-use Prim.Native.Nat.{ℕ, zero, suc, _+_, _*_, _≤_, pred}
+use Prim.Native.Nat.{ℕ, zero, suc, _+_, _*_, _≤_}
 use native.Mathlib.Omega.{arith}
 use borrow.Author.Tests.{eqb-true, leb-true, ltb-true}
 use lib.Dec.{eqb, leb, ltb}
@@ -15,12 +16,13 @@ use Rattle.rules.specs.Slots.{stated}
 use Rattle.rules.specs.Decided.{missedAt, EarliestMiss, Settles, SlotsNeeded}
 use Rattle.rules.specs.Verdicts.{plain, missedId, Worst}
 use Rattle.basics.specs.Cases.{both-true, every, each}
+use Rattle.reordering.specs.All.{All}
 use Rattle.theory.specs.Policies.{policy-repeats}
 use Rattle.theory.specs.Twin.{slots}
 use Rattle.theory.specs.Times.{Short, Turn}
 use Rattle.theory.specs.Decides.{Within}
 use Rattle.theory.specs.Responses.{worst, worst-is}
-use Rattle.theory.specs.Rows.{Fits, All, Passes, Valid, shorts, turn, within, needed}
+use Rattle.theory.specs.Rows.{Fits, Passes, Valid, shorts, turn, within, needed}
 
 -- a worked table: the policy's number, the rows in ascending id, the slots needed, the missed id or 0, and, where stated,
 -- the worst responses in ascending id

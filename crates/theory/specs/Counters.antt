@@ -1,4 +1,5 @@
--- What code may keep instead of absolute times: one countdown to the next release for each task. Assumes nothing.
+-- What code may keep instead of absolute times: one countdown to the next release for each task. A release is when it is at 0; the
+-- newest release, and so the absolute deadline, is found from it.
 use mathlib.Core.Path.{_≡_, sym, _∙_}
 use mathlib.Core.Bool.{true, cond, _&&_}
 use Prim.Native.Nat.{ℕ, zero, suc, _+_, _-_, _*_, _/_, _%_, _≤_, _<_, pred}

@@ -1,4 +1,6 @@
--- Exactly one number is that of the slots needed; it computes, and within the limits it is at most 2^48. Assumes nothing.
+-- It always decides: exactly one number is that of the slots needed; the twin computes it; within the limits it is at most 2^48. The
+-- weight of the first state bounds the least k at which two states are equal, and a miss, if there is one, comes before the horizon
+-- Omax + (k+1) × H. Nothing assumes that one or two hyper-periods suffice: they do not.
 use mathlib.Core.Path.{_≡_, refl, sym, ap, _∙_}
 use mathlib.Core.Logic.{inl, inr, _≢_}
 use mathlib.Core.Bool.{true, false, _&&_}

@@ -2,19 +2,19 @@
 -- stated time by its deadline, and no later than the schedule did. From domination with h = 0; used for as run and by
 -- whoever asks what "accepted" is worth on a bench.
 use mathlib.Core.Path.{_≡_, refl}
-use mathlib.Core.Bool.{true, false}
+use mathlib.Core.Bool.{true}
 use Prim.Native.Nat.{ℕ, zero, suc, _+_, _-_, _≤_, _<_}
-use native.Mathlib.Nat.{add-zero, add-suc}
+use native.Mathlib.Nat.{add-suc}
 use native.Mathlib.Omega.{arith}
 use borrow.Author.Tests.{leb-true, le-leb}
 use Rattle.rules.specs.Policies.{System}
-use Rattle.rules.specs.Slots.{Choice, complete, released, due, onTime, requests, joined, run, stated, schedule, missed}
+use Rattle.rules.specs.Slots.{Choice, complete, released, due, onTime, requests, run, stated}
 use Rattle.rules.specs.Decided.{NeverMissed, missedAt}
 use Rattle.rules.specs.Demands.{HasHad, KeepsTime}
 use Rattle.theory.specs.Uniform.{run-next}
-use Rattle.theory.specs.Order.{First, pick-first}
+use Rattle.theory.specs.Order.{pick-first}
 use Rattle.theory.specs.Times.{Quick, Short, released-alone, is-due}
-use Rattle.theory.specs.Runs.{full, finishes, demand-3}
+use Rattle.theory.specs.Runs.{finishes, demand-3}
 
 -- until its successor's release a job is to have what it asked for at its own
 module _ (y : System) (c : ℕ → Choice) (i r : ℕ) (job : released (y .row i) r ≡ true) where

@@ -1,5 +1,8 @@
--- One step keeps a state A ahead of a state B. A's releases are among B's, A's jobs need at most c and load at most `load`,
--- B's need and load at least that; and the two orders agree on what is incomplete in A. Assumes nothing.
+-- DOMINATION: one step keeps a state A ahead of a state B. "Ahead" says, of each task that is incomplete in A: A has executed at
+-- least as much of it as B; if B went on with it in the slot before, so did A, with no more loading left. What is complete in B is
+-- then complete in A, so whatever task B picks is complete in A, or is the one that A picks too; and A loads no more for it, since
+-- a loading that begins later is no longer. A's releases are among B's, A's jobs need at most c and load at most `load`, B's need
+-- and load at least that, and the two orders agree on what is incomplete in A. `Runs` makes the theorem of it.
 use mathlib.Core.Path.{_≡_, refl}
 use mathlib.Core.Logic.{_↔_}
 use mathlib.Core.Bool.{Bool, true, false, cond, _&&_}
@@ -10,7 +13,7 @@ use borrow.Author.Tests.{leb-true, leb-false, eqb-true, eq-eqb, lt-leb}
 use lib.Dec.{eqb, eqb·suc-zero}
 use Rattle.rules.specs.Slots.{State, complete, unless, release, pick, loading}
 use Rattle.basics.specs.Cases.{test, clash, both-true}
-use Rattle.theory.specs.Uniform.{bit, served, uniform, act}
+use Rattle.theory.specs.Uniform.{bit, uniform, act}
 use Rattle.theory.specs.Order.{pick-first, agree}
 
 pub record Dom (c : ℕ → ℕ) (load : ℕ → ℕ → ℕ) (a b : State) : Type 0 where

@@ -1,4 +1,6 @@
--- From one turn to the next the state stays or falls, by a weight that is a number. Assumes nothing.
+-- From one hyper-period to the next the schedule's state stays or falls, by a weight that is a number: what has executed, and then
+-- how little loading is left. By the cousins no executed count rises; where all are equal, the job that went on either stops or has
+-- more loading left. So the states at Omax + k × H differ for finitely many k only, whether or not jobs are missed.
 use mathlib.Core.Path.{_≡_, refl, sym, _∙_}
 use mathlib.Core.Bool.{Bool, false, _&&_}
 use Prim.Native.Nat.{ℕ, zero, suc, _+_, _-_, _*_, _≤_, _<_, pred}

@@ -1,6 +1,7 @@
--- Many slots at once. As long as nothing is released and the task that has the slot is not complete, it keeps the slot: n slots
--- are one jump in closed form, first loading, then executing. Nothing is missed between but what is due and incomplete.
--- For any run, any key. Assumes nothing.
+-- THE JUMP: from the state at t with its jobs joined, m slots up to the next release or the completion of the task that has the slot
+-- are one step in closed form. Its executed slots rise by m − l, where l is the loading to do (0 if that is negative), its loading
+-- falls by m, and nothing else moves: one form for idle, loading, executing, and loading that turns into executing, for any run and any
+-- key. Nothing is missed in between but at the deadline of an incomplete job. The checker's loop goes by it.
 use mathlib.Core.Path.{_≡_, refl, sym, ap, _∙_}
 use mathlib.Core.Bool.{Bool, true, false, cond, _&&_}
 use Prim.Native.Nat.{ℕ, zero, suc, _+_, _-_, _≤_, _<_, pred}
@@ -214,13 +215,6 @@ module _ (y : System) (pos : (i : ℕ) → i < y .tasks → 0 < y .row i .period
   inside k quiet busy = goes-on (now y c t) (whose y c t) (loads y c t) k (pick-first (rank y t) (complete (now y c t)) (y .tasks))
       (no-load (lengths y (c t)) (now y c t) (whose y c t)) (λ i h e. incomplete y c t i e) quiet busy
       (jumps k (λ i u h a b. quiet i u h a (omega arith)) (λ j e. omega (arith, busy j e)))
-
-  -- within it, nobody's job is completed
-  pub done-inside : (k i : ℕ) → i < y .tasks → Quiet y t (suc k) → Busy (now y c t) (whose y c t) (loads y c t) (suc k) → complete (run y c (t + suc k)) i ≡ complete (now y c t) i
-  done-inside k i h quiet busy =
-      let m = jumps k quiet (λ j e. omega (arith, busy j e)) in
-      rw (m .need i h, m .executed i h) (jump-done (y .tasks) (now y c t) (whose y c t) (loads y c t)
-      (first-le (rank y t) (complete (now y c t)) (y .tasks) (whose y c t) (pick-first (rank y t) (complete (now y c t)) (y .tasks))) (suc k) busy i)
 
   -- what is complete stays so
   pub done-quiet : (k i : ℕ) → i < y .tasks → Quiet y t (suc k) → complete (now y c t) i ≡ true → complete (run y c (t + suc k)) i ≡ true

@@ -1,15 +1,15 @@
 -- The two lists of as run, over a jump: entries are used at its first slot alone, since within it nothing is released and no
 -- loading begins. For the loop, which looks at the lists once an event.
 use mathlib.Core.Path.{_≡_, refl, sym, ap, _∙_}
-use mathlib.Core.Bool.{Bool, true, false, cond, not, _&&_}
+use mathlib.Core.Bool.{Bool, false}
 use mathlib.Core.List.{List}
-use Prim.Native.Nat.{ℕ, zero, suc, _+_, _≤_, _<_}
+use Prim.Native.Nat.{ℕ, zero, suc, _+_, _<_}
 use native.Mathlib.Nat.{add-suc}
 use native.Mathlib.Omega.{arith}
 use borrow.Author.Tests.{eq-eqb}
 use lib.ListN.{drop}
 use Rattle.rules.specs.Policies.{System}
-use Rattle.rules.specs.Slots.{State, released, joins, joined, who}
+use Rattle.rules.specs.Slots.{State, joins, joined, who}
 use Rattle.rules.specs.AsRun.{one, before, begins, asRun, listed}
 use Rattle.theory.specs.AsRun.{as-run}
 use Rattle.theory.specs.Jump.{now, whose, loads, Quiet, Busy, inside}

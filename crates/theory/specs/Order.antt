@@ -1,4 +1,5 @@
--- What `pick` returns, and when two picks agree. Assumes nothing.
+-- What `pick` returns: the first by rank among the tasks that the test leaves, or none where it leaves none. And when two picks
+-- agree: where what is left in one is left in the other and the orders agree on it. Every law about who has a slot goes by this.
 use mathlib.Core.Path.{_≡_, refl}
 use mathlib.Core.Logic.{_↔_}
 use mathlib.Core.Bool.{Bool, true, false}

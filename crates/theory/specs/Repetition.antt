@@ -1,4 +1,6 @@
--- Once the states at t and t + h are equal, t from the largest offset on, all that follows repeats. Assumes nothing.
+-- REPETITION: once the states at t and t + h are equal, t from the largest offset on, all that follows repeats, misses included. Equal
+-- states with equal releases and agreeing orders make equal states; a deadline at t + h is that of a job with a cousin at t. So
+-- where nothing is missed before t + h, nothing ever is.
 use mathlib.Core.Path.{_≡_, refl, sym, ap, _∙_, fun-ext}
 use mathlib.Core.Logic.{_↔_}
 use mathlib.Core.Bool.{Bool, true, false, cond}
@@ -6,7 +8,7 @@ use Prim.Native.Nat.{ℕ, zero, suc, _+_, _-_, _≤_, _<_}
 use native.Mathlib.Nat.{add-zero, add-suc, suc-add}
 use native.Mathlib.Omega.{arith}
 use Rattle.rules.specs.Policies.{System}
-use Rattle.rules.specs.Slots.{State, Choice, complete, release, pick, loading, due, joins, rank, requests, lengths, joined, run, stated, schedule, onTime, missed}
+use Rattle.rules.specs.Slots.{State, Choice, complete, release, pick, loading, due, joins, rank, requests, lengths, joined, stated, schedule, onTime, missed}
 use Rattle.rules.specs.Decided.{Same}
 use Rattle.basics.specs.Cases.{test, le-case, clash}
 use Rattle.theory.specs.Uniform.{uniform, act, run-next}

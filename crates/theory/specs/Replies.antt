@@ -6,15 +6,15 @@ use mathlib.Core.Bool.{false}
 use mathlib.Core.List.{List}
 use Prim.Native.Nat.{ℕ, zero, suc, _+_, _-_, _≤_, _<_, pred}
 use native.Mathlib.Omega.{arith}
-use lib.ListN.{getD, drop, length}
+use lib.ListN.{getD, length}
 use lib.Seq.{ext-getD, getD-drop}
 use Rattle.rules.specs.declared.Refusal.{Refusal}
 use Rattle.rules.specs.declared.Verdict.{Verdict}
 use Rattle.rules.specs.declared.Verdict.the-variants.{Accepted, Missed, Undecided, Refused}
 use Rattle.rules.specs.Policies.{System}
-use Rattle.rules.specs.Slots.{onTime, run, stated, missed}
-use Rattle.rules.specs.Decided.{missedAt, EarliestMiss, NeverMissed, Settles, SlotsNeeded}
-use Rattle.rules.specs.Verdicts.{missedId, plain, Decides, Replies, Worst, Hold, Leaves, ResponsesAre}
+use Rattle.rules.specs.Slots.{onTime, run, stated}
+use Rattle.rules.specs.Decided.{missedAt, NeverMissed, SlotsNeeded}
+use Rattle.rules.specs.Verdicts.{missedId, plain, Decides, Replies, Hold, Leaves, ResponsesAre}
 use Rattle.basics.specs.Cases.{le-case, eq-case}
 use Rattle.theory.specs.Order.{First, pick-first}
 use Rattle.theory.specs.Decides.{miss-one, settles-one, slots-one}

@@ -1,17 +1,17 @@
--- Worst responses: no run's job takes longer than the schedule's, and the jobs released before the horizon hold the worst.
--- Assumes nothing.
+-- Responses of the unbounded schedule: where the states at t and t + h are equal, the largest response over all jobs is that of a job
+-- released before t + h, and of one complete by then. A job past the horizon takes as long as its cousin one turn earlier; one that
+-- the horizon cuts has a cousin, one turn earlier, that takes as long.
 use mathlib.Core.Path.{_≡_, refl, sym, ap, _∙_}
 use mathlib.Core.Bool.{true, false, true≢false}
 use Prim.Native.Nat.{ℕ, zero, suc, _+_, _-_, _≤_, _<_}
 use native.Mathlib.Nat.{add-zero, add-suc}
 use native.Mathlib.Omega.{arith}
-use Rattle.rules.specs.Search.{lowest}
 use Rattle.rules.specs.Policies.{System}
 use Rattle.rules.specs.Slots.{Choice, complete, released, run, stated, schedule}
 use Rattle.rules.specs.Decided.{Same}
 use Rattle.rules.specs.Verdicts.{response, Worst}
 use Rattle.basics.specs.Cases.{le-case, clash}
-use Rattle.basics.specs.Search.{lowest-below, lowest-holds, lowest-top, lowest-mono, lowest-same, most, most-top, most-at}
+use Rattle.basics.specs.Search.{lowest-below, lowest-holds, lowest-top, lowest-same, most, most-top, most-at}
 use Rattle.theory.specs.Times.{Quick, Short, Turn, released-again, released-first, released-alone, released-before, period-top}
 use Rattle.theory.specs.Runs.{unreleased, keeps, full, done-sooner, finishes}
 use Rattle.theory.specs.Repetition.{done-same, same-on}
@@ -47,20 +47,6 @@ worst y i n = most (released (y .row i)) (stays y i) n
 
 pub worst-one : (y : System) (i m n : ℕ) → Worst y i m → Worst y i n → m ≡ n
 worst-one y i m n a b = omega (arith, a .most (b .at) (b .job), b .most (a .at) (a .job), a .takes, b .takes)
-
--- a run's job takes no longer than the schedule's
-pub response-run : (y : System) → Quick y → (c : ℕ → Choice) (i r : ℕ) → response y c i r ≤ stays y i r
-unfolding response
-response-run y quick c i r = omega (arith, lowest-mono (λ e. complete (schedule y (r + suc e)) i) (λ e. complete (run y c (r + suc e)) i) (λ e. finishes y quick c (r + suc e) i) (y .row i .period))
-
-module _ (y : System) (quick : Quick y) (h : ℕ) (turn : Turn y h) where
-  -- a job takes no longer than its cousin h slots later
-  pub response-rises : (i r : ℕ) → stays y i r ≤ stays y i (r + h)
-  unfolding response
-  response-rises i r = omega (arith, lowest-mono (λ e. complete (schedule y (r + h + suc e)) i) (λ e. complete (schedule y (r + suc e)) i) sooner (y .row i .period))
-    where
-      sooner : (e : ℕ) → complete (schedule y (r + h + suc e)) i ≡ true → complete (schedule y (r + suc e)) i ≡ true
-      sooner e k = let q : r + h + suc e ≡ r + suc e + h = omega arith in done-sooner y quick h turn (stated y) (r + suc e) i (rw q at k)
 
 -- WHERE THE SCHEDULE REPEATS: no word on loadings
 module _ (y : System) (short : Short y) (h : ℕ) (turn : Turn y h) where

@@ -1,4 +1,5 @@
--- A table that passes the checks meets what the laws ask, under every policy whose comparisons repeat. Assumes nothing.
+-- A table that passes the checks meets what the laws ask, under every policy whose comparisons repeat; so slots needed exists, once,
+-- and is at most 2^48. Check 12 stands apart, as a profile may replace it.
 use mathlib.Core.Path.{_≡_}
 use mathlib.Core.Bool.{true}
 use mathlib.Core.List.{List, [], _∷_}
@@ -15,6 +16,7 @@ use Rattle.rules.specs.Decided.{SlotsNeeded}
 use Rattle.rules.specs.Verdicts.{plain}
 use Rattle.basics.specs.Cases.{both-true}
 use Rattle.basics.specs.Search.{lowest-holds}
+use Rattle.reordering.specs.All.{All}
 use Rattle.theory.specs.Policies.{Repeats}
 use Rattle.theory.specs.Times.{Quick, Short, Turn}
 use Rattle.theory.specs.Twin.{slots}
@@ -26,10 +28,6 @@ pub record Fits (w : Row) : Type 0 where
   pub wcet : w .wcet ≤ 10000
   pub start : w .start ≤ 10000
   pub offset : w .offset ≤ 10000
-
-abbrev pub All : (Row → Type 0) → List Row → Type 0
-All P [] = Unit
-All P (w ∷ ws) = P w × All P ws
 
 pub record Passes (ws : List Row) : Type 0 where
   pub rows : All Fits ws

@@ -1,5 +1,7 @@
--- Any run at t is ahead of the schedule at t + h, where the table repeats with h. With h = 0: a run is never behind the
--- schedule. With the run the schedule itself: its states only fall from one turn to the next. Assumes nothing.
+-- Any run at t is ahead of the schedule at t + h, where the table repeats with h: the one theorem behind demand 3 and the cousins.
+-- With h = 0, a run is never behind the schedule: where the schedule misses nothing, no run does (`demand-3`). With the schedule as
+-- the run and h the hyper-period, a job and the same task's job one hyper-period later stand in order, execution and loading
+-- (`cousins`; source 000's Lemma 2 wants this). The base is the same for every h: at 0 every task is complete in A.
 use mathlib.Core.Path.{_≡_, refl, ap}
 use mathlib.Core.Logic.{_↔_}
 use mathlib.Core.Bool.{true, false}
@@ -9,7 +11,7 @@ use native.Mathlib.Omega.{arith}
 use borrow.Author.Tests.{le-leb}
 use Rattle.rules.specs.declared.Row.{Row}
 use Rattle.rules.specs.Policies.{System}
-use Rattle.rules.specs.Slots.{State, Choice, complete, pick, loading, released, newest, due, delay, joins, rank, requests, lengths, joined, step, run, stated, schedule, onTime, missed}
+use Rattle.rules.specs.Slots.{State, Choice, complete, pick, loading, released, newest, due, delay, joins, rank, requests, lengths, joined, run, stated, schedule, onTime, missed}
 use Rattle.basics.specs.Cases.{test, le-case, clash}
 use Rattle.theory.specs.Uniform.{act, run-next}
 use Rattle.theory.specs.Order.{First, pick-first}
