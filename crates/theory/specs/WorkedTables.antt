@@ -1,5 +1,6 @@
 -- Document 01's tables marked P: one table under one statement, proved of the rules by computation.
-use mathlib.Core.Path.{refl}
+use mathlib.Core.Path.{_≡_, refl}
+use mathlib.Core.Bool.{true}
 use mathlib.Core.List.{List, [], _∷_, _++_}
 use Prim.Native.Nat.{ℕ}
 use Rattle.rules.specs.declared.Row.{Row}
@@ -9,7 +10,7 @@ use Rattle.rules.specs.Slots.{released, newest, due, run}
 use Rattle.rules.specs.Verdicts.{response}
 use Rattle.basics.specs.Search.{most}
 use Rattle.theory.specs.Twin.{equalb, missb, settled, slots}
-use Rattle.theory.specs.Answers.{Case, Rights, right, rights-are}
+use Rattle.theory.specs.Answers.{Case, Rights, right, rights, rights-are}
 
 -- id offset wcet deadline period start resume priority
 abbrev w : ℕ → ℕ → ℕ → ℕ → ℕ → ℕ → ℕ → ℕ → Row
@@ -51,6 +52,9 @@ tables =
     ++ any (accepted 5 [] (w 1 0 4 5 5 1 0 1 ∷ []))
     ++ any (missed 5 1 (w 1 0 5 5 5 1 0 1 ∷ []))
 
-pub tables-are : Rights tables
+computed : rights tables ≡ true
 unfolding right run released newest due lowest whole omax most response equalb missb settled slots
-tables-are = rights-are tables refl
+computed = refl
+
+pub tables-are : Rights tables
+tables-are = rights-are tables computed
