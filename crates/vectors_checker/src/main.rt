@@ -1,0 +1,488 @@
+// Runs the checker on tables whose replies are known without it. A line of standard input is a reason, a call and a text, with
+// bars between; as_run has its requests and its loadings behind two more bars. For each it writes the reason and the reply, and
+// what the lent buffer holds after it. A line without a bar is a heading. No crate uses it.
+//
+//     verdict POLICY ALLOWANCE
+//     responses POLICY ALLOWANCE LENGTH    lends LENGTH numbers, each 777
+//     schedule POLICY LENGTH               lends LENGTH bytes, each 170
+//     as_run POLICY LENGTH                 the same
+//
+// In a text round brackets stand around a row and a blank for its comma: (1 0 2 5 5 1 1 1). After a backslash h stands for the
+// header with its line end, r and n for CR and LF, c for a hundred zeros. A slot is written as its id and a letter for its kind:
+// i idle, l loading, e executing, m from the miss on, ? for a byte that is no kind. Where not every slot is written, or the
+// length is odd, a sum over all bytes follows.
+ghost use Prim.Native.Nat.{_≤_, _<_};
+ghost use lib.ListN.{length};
+use libc::STDIN_FILENO;
+use libc::STDOUT_FILENO;
+use rules::ScheduleReply;
+use rules::Verdict;
+
+// Room for a text, over the limit of 4,096 bytes.
+const ROOM: usize = 5_000;
+
+// Numbers in a part of a line.
+const NUMBERS: usize = 64;
+
+// The longest buffers that are lent.
+const MOST_RESPONSES: usize = 17;
+
+const MOST_BYTES: usize = 65_538;
+
+// Slots that are written one by one.
+const SHOWN: usize = 48;
+
+fn word(bytes: &[u8]) {
+    io::write_all(STDOUT_FILENO, bytes);
+}
+
+fn put(x: u64) {
+    word(b" ");
+    io::print_decimal(STDOUT_FILENO, x);
+}
+
+fn put_verdict(v: Verdict) {
+    match v {
+        Verdict::Accepted(n) => {
+            word(b" accepted");
+            put(n);
+        }
+        Verdict::Missed { time, id } => {
+            word(b" missed");
+            put(time);
+            put(id as u64);
+        }
+        Verdict::Undecided => {
+            word(b" undecided");
+        }
+        Verdict::Refused { number, place } => {
+            word(b" refused");
+            put(number as u64);
+            put(place);
+        }
+    }
+}
+
+fn put_reply(r: ScheduleReply) {
+    match r {
+        ScheduleReply::Filled => {
+            word(b" filled");
+        }
+        ScheduleReply::Missed { time, id } => {
+            word(b" missed");
+            put(time);
+            put(id as u64);
+        }
+        ScheduleReply::Refused { number, place } => {
+            word(b" refused");
+            put(number as u64);
+            put(place);
+        }
+    }
+}
+
+fn put_kind(kind: u8) {
+    match kind {
+        0 => word(b"i"),
+        1 => word(b"l"),
+        2 => word(b"e"),
+        3 => word(b"m"),
+        _ => word(b"?"),
+    }
+}
+
+fn put_slot(id: u8, kind: u8) {
+    put(id as u64);
+    put_kind(kind);
+}
+
+fn put_slots(slots: &[u8]) {
+    let n = slots.len() / 2;
+    let mut i: usize = 0;
+    while i < n {
+        if SHOWN <= i {
+            return;
+        }
+        put_slot(slots[i * 2], slots[i * 2 + 1]);
+        i += 1;
+    }
+}
+
+fn mixed(s: u64, b: u8) -> u64 {
+    (s % 65_521 * 31 + b as u64 + 1) % 65_521
+}
+
+fn put_sum(slots: &[u8]) {
+    let mut s: u64 = 0;
+    let mut i: usize = 0;
+    while i < slots.len() {
+        s = mixed(s, slots[i]);
+        i += 1;
+    }
+    word(b" sum");
+    put(s);
+}
+
+fn put_bytes(slots: &[u8]) {
+    word(b":");
+    put_slots(slots);
+    if SHOWN < slots.len() / 2 {
+        word(b" ..");
+        put_sum(slots);
+        return;
+    }
+    if slots.len() % 2 == 1 {
+        put_sum(slots);
+    }
+}
+
+fn put_number(x: u32) {
+    put(x as u64);
+}
+
+fn put_numbers(numbers: &[u32]) {
+    word(b":");
+    let mut i: usize = 0;
+    while i < numbers.len() {
+        put_number(numbers[i]);
+        i += 1;
+    }
+}
+
+fn narrow(x: u64) -> u32 {
+    if x < 4_294_967_296 {
+        return x as u32;
+    }
+    4_294_967_295
+}
+
+// The lesser of a length and what there is room for.
+fn fitting(x: u64, most: usize) -> usize
+    ensures { λ r. ⌜ r ≤ most ⌝ }
+{
+    let n = x as usize;
+    if n < most {
+        return n;
+    }
+    most
+}
+
+// THE CALLS
+
+fn responses_in(policy: u32, allowance: u64, text: &[u8], numbers: &mut [u32]) {
+    put_verdict(checker::responses(policy, allowance, text, numbers));
+    put_numbers(numbers);
+}
+
+fn responses(policy: u32, allowance: u64, text: &[u8], length: u64) {
+    let mut numbers = [777u32; 17];
+    let n = fitting(length, MOST_RESPONSES);
+    responses_in(policy, allowance, text, &mut numbers[..n]);
+}
+
+fn schedule_in(policy: u32, text: &[u8], slots: &mut [u8]) {
+    put_reply(checker::schedule(policy, text, slots));
+    put_bytes(slots);
+}
+
+fn schedule(policy: u32, text: &[u8], length: u64) {
+    let mut slots = [170u8; 65538];
+    let n = fitting(length, MOST_BYTES);
+    schedule_in(policy, text, &mut slots[..n]);
+}
+
+fn as_run_in(policy: u32, text: &[u8], requests: &[u32], loadings: &[u32], slots: &mut [u8]) {
+    put_reply(checker::as_run(policy, text, requests, loadings, slots));
+    put_bytes(slots);
+}
+
+fn as_run(policy: u32, text: &[u8], length: u64, requests: &[u32], loadings: &[u32]) {
+    let mut slots = [170u8; 65538];
+    let n = fitting(length, MOST_BYTES);
+    as_run_in(policy, text, requests, loadings, &mut slots[..n]);
+}
+
+// NUMBERS, with one blank between
+
+fn digit(x: u64, c: u8) -> u64 {
+    if c < b'0' {
+        return x;
+    }
+    if b'9' < c {
+        return x;
+    }
+    let d = (c - b'0') as u64;
+    if x < 1_844_674_407_370_955_161 {
+        return x * 10 + d;
+    }
+    18_446_744_073_709_551_610 + d % 6
+}
+
+fn next(at: usize) -> usize
+    ensures { λ r. ⌜ r < 64 ⌝ }
+{
+    if at < NUMBERS - 1 {
+        return at + 1;
+    }
+    NUMBERS - 1
+}
+
+fn put_digit(list: &mut [u64; 64], at: usize, c: u8) -> usize
+    ensures { λ r. ⌜ r < 64 ⌝ }
+{
+    if c == b' ' {
+        return next(at);
+    }
+    if at < NUMBERS {
+        let x = list[at];
+        list[at] = digit(x, c);
+        return at;
+    }
+    0
+}
+
+fn numbers(part: &[u8], list: &mut [u64; 64]) -> usize
+    ensures { λ r. ⌜ r ≤ 64 ⌝ }
+{
+    if part.len() == 0 {
+        return 0;
+    }
+    let mut at: usize = 0;
+    let mut i: usize = 0;
+    while i < part.len() {
+        at = put_digit(list, at, part[i]);
+        i += 1;
+    }
+    at + 1
+}
+
+fn narrowed(wide: [u64; 64], list: &mut [u32; 64]) {
+    let mut i: usize = 0;
+    while i < NUMBERS {
+        list[i] = narrow(wide[i]);
+        i += 1;
+    }
+}
+
+fn entries(part: &[u8], list: &mut [u32; 64]) -> usize
+    ensures { λ r. ⌜ r ≤ 64 ⌝ }
+{
+    let mut wide = [0u64; 64];
+    let n = numbers(part, &mut wide);
+    narrowed(wide, list);
+    n
+}
+
+// THE TEXT, put into the buffer from a place on, as far as there is room; the place after it
+
+fn push(buffer: &mut [u8; 5000], at: usize, b: u8) -> usize {
+    if at < ROOM {
+        buffer[at] = b;
+        return at + 1;
+    }
+    at
+}
+
+fn append(buffer: &mut [u8; 5000], from: usize, part: &[u8]) -> usize {
+    let mut at = from;
+    let mut i: usize = 0;
+    while i < part.len() {
+        at = push(buffer, at, part[i]);
+        i += 1;
+    }
+    at
+}
+
+fn put_code(buffer: &mut [u8; 5000], at: usize, c: u8) -> usize {
+    if c == b'h' {
+        return append(
+            buffer,
+            at,
+            b"id,offset,wcet,deadline,period,start,resume,priority\r\n",
+        );
+    }
+    if c == b'c' {
+        return append(
+            buffer,
+            at,
+            b"0000000000000000000000000000000000000000000000000000000000000000000000000000000000000000000000000000",
+        );
+    }
+    if c == b'r' {
+        return push(buffer, at, b'\r');
+    }
+    if c == b'n' {
+        return push(buffer, at, b'\n');
+    }
+    push(buffer, at, c)
+}
+
+fn put_plain(buffer: &mut [u8; 5000], at: usize, c: u8) -> usize {
+    if c == b'(' {
+        return at;
+    }
+    if c == b')' {
+        return append(buffer, at, b"\r\n");
+    }
+    if c == b' ' {
+        return push(buffer, at, b',');
+    }
+    push(buffer, at, c)
+}
+
+// A byte of a written text, which a backslash precedes or not.
+fn put_byte(buffer: &mut [u8; 5000], at: usize, escaped: bool, c: u8) -> usize {
+    if escaped {
+        return put_code(buffer, at, c);
+    }
+    if c == b'\\' {
+        return at;
+    }
+    put_plain(buffer, at, c)
+}
+
+fn escapes(escaped: bool, c: u8) -> bool {
+    if escaped {
+        return false;
+    }
+    c == b'\\'
+}
+
+fn decode(buffer: &mut [u8; 5000], written: &[u8]) -> usize {
+    let mut at: usize = 0;
+    let mut escaped = false;
+    let mut i: usize = 0;
+    while i < written.len() {
+        let c = written[i];
+        at = put_byte(buffer, at, escaped, c);
+        escaped = escapes(escaped, c);
+        i += 1;
+    }
+    at
+}
+
+// A LINE, cut at its bars
+
+// The bytes before the first b.
+fn find(text: &[u8], b: u8) -> usize
+    ensures { λ r. ⌜ r ≤ length (now (text .entry)) ⌝ }
+{
+    let mut i: usize = 0;
+    while i < text.len() {
+        if text[i] == b {
+            return i;
+        }
+        i += 1;
+    }
+    i
+}
+
+// Those and the b itself, if there is one.
+fn through(text: &[u8], b: u8) -> usize
+    ensures { λ r. ⌜ r ≤ length (now (text .entry)) ⌝ }
+{
+    let k = find(text, b);
+    if k < text.len() {
+        return k + 1;
+    }
+    k
+}
+
+fn first(part: &[u8]) -> u8 {
+    if 0 < part.len() {
+        return part[0];
+    }
+    0
+}
+
+fn with_lists(
+    policy: u32,
+    length: u64,
+    text: &[u8],
+    requests: [u32; 64],
+    asked: usize,
+    loadings: [u32; 64],
+    begun: usize,
+) {
+    if asked <= NUMBERS {
+        if begun <= NUMBERS {
+            as_run(policy, text, length, &requests[..asked], &loadings[..begun]);
+        }
+    }
+}
+
+// Requests, a bar and loadings.
+fn as_run_of(policy: u32, length: u64, text: &[u8], input: &[u8]) {
+    let k = find(input, b'|');
+    let m = through(input, b'|');
+    let mut requests = [0u32; 64];
+    let asked = entries(&input[..k], &mut requests);
+    let mut loadings = [0u32; 64];
+    let begun = entries(&input[m..], &mut loadings);
+    with_lists(policy, length, text, requests, asked, loadings, begun);
+}
+
+fn answer(kind: u8, call: [u64; 64], text: &[u8], input: &[u8]) {
+    let policy = narrow(call[1]);
+    match kind {
+        b'v' => put_verdict(checker::verdict(policy, call[2], text)),
+        b'r' => responses(policy, call[2], text, call[3]),
+        b's' => schedule(policy, text, call[2]),
+        b'a' => as_run_of(policy, call[2], text, input),
+        _ => word(b" no call"),
+    }
+}
+
+fn with_text(kind: u8, call: [u64; 64], buffer: [u8; 5000], n: usize, input: &[u8]) {
+    if n <= ROOM {
+        answer(kind, call, &buffer[..n], input);
+    }
+}
+
+// A text, and what follows its bar.
+fn with_call(kind: u8, call: [u64; 64], input: &[u8]) {
+    let k = find(input, b'|');
+    let m = through(input, b'|');
+    let mut buffer = [0u8; 5000];
+    let n = decode(&mut buffer, &input[..k]);
+    with_text(kind, call, buffer, n, &input[m..]);
+}
+
+// A call, and what follows its bar.
+fn case(input: &[u8]) {
+    let k = find(input, b'|');
+    let m = through(input, b'|');
+    let mut call = [0u64; 64];
+    numbers(&input[..k], &mut call);
+    with_call(first(input), call, &input[m..]);
+}
+
+fn line(input: &[u8]) {
+    let k = find(input, b'|');
+    word(&input[..k]);
+    if k < input.len() {
+        word(b" ->");
+        let m = k + 1;
+        case(&input[m..]);
+    }
+    word(b"\n");
+}
+
+fn lines(input: &[u8]) {
+    let mut t = input;
+    while 0 < t.len() {
+        let m = find(t, b'\n');
+        line(&t[..m]);
+        if t.len() <= m {
+            return;
+        }
+        let k = m + 1;
+        t = &t[k..];
+    }
+}
+
+fn main() {
+    let mut buffer = [0u8; 65536];
+    let n = io::read_full(STDIN_FILENO, &mut buffer);
+    lines(&buffer[..n]);
+}
