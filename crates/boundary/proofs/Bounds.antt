@@ -1,0 +1,146 @@
+-- How large a reply is: every reply that the rules give is small, so that it crosses as one number. Times are at most 2^48, the
+-- allowance that always decides, or the slots of a lent buffer; ids are at most 255 where the table passes. The place of a refusal
+-- is a line of a text of at most 4,096 bytes, or an id of at most five digits. The exported functions use it, and Unpacked.
+use mathlib.Core.Path.{_≡_, refl, ap}
+use mathlib.Core.Logic.{inl, inr}
+use mathlib.Core.Bool.{Bool, true, false, cond}
+use mathlib.Core.List.{List, [], _∷_, map}
+use Prim.Native.Nat.{ℕ, zero, suc, _+_, _*_, _-_, _/_, _^_, _≤_, _<_, pred}
+use native.Mathlib.Numerals.{add-zero}
+use native.Mathlib.Nat.{pow-suc, pow-le-pow-right}
+use native.Mathlib.Omega.{arith}
+use lib.Dec.{eqb, leb, ltb}
+use lib.ListN.{length, drop}
+use borrow.Author.Tests.{eqb-true, leb-true, ltb-true, ltb-false}
+use Rattle.rules.specs.declared.Row.{Row}
+use Rattle.rules.specs.declared.Refusal.{Refusal}
+use Rattle.rules.specs.Text.{lines, header, same, fields, isDigit, digits, inner, good, closed, nil, behind, shaped, all, wellFormed, firstBad, illFormed, badLine, number, value, rowOf, rowsOf, breaks, opened, push}
+use Rattle.basics.specs.Cases.{test, eq-case, clash, both-true}
+use Rattle.reordering.specs.All.{All}
+use Rattle.rules.specs.Checks.{better, smallest, fault, place, nothing, firstFault, checked, rowsChecked, tableRead, check, within, refused}
+use Rattle.rules.specs.Table.{hyper, tableOf}
+use Rattle.boundary.specs.Packed.{SmallRefusal}
+
+-- AN ID OF AT MOST FIVE DIGITS
+
+digit-low : (b : ℕ) → isDigit b ≡ true → b - 48 ≤ 9
+digit-low b e = test (ltb b 48) (λ l. clash (rw l at e) refl) (λ l. omega (arith, leb-true b 57 (rw l at e)))
+
+-- a has i digits, and those at the front of s follow it
+number-low : (s : List ℕ) (a i : ℕ) → a + 1 ≤ 10 ^ i → number a (digits s) + 1 ≤ 10 ^ (i + length (digits s))
+unfolding number digits
+number-low [] a i h = rw (add-zero i) h
+number-low (b ∷ s) a i h = test (isDigit b)
+    (λ e. let on : i + suc (length (digits s)) ≡ suc i + length (digits s) = omega arith in
+    rw (e, on) (number-low s (a * 10 + (b - 48)) (suc i) (rw (pow-suc 10 i) (omega (arith, digit-low b e)))))
+    (λ e. rw (e, add-zero i) h)
+
+value-low : (f : List ℕ) → good f ≡ true → value f ≤ 99999
+value-low f e =
+    let ds = digits (inner f) in
+    let shape = both-true (nil (behind f)) (shaped ds) (both-true (closed f) _ e .1) .1 in
+    let five = leb-true (length ds) 5 (both-true (leb (length ds) 5) _ (both-true (leb 1 (length ds)) _ shape .1) .0) in
+    omega (arith, number-low (inner f) 0 0 (omega arith), pow-le-pow-right {n = 10} (omega arith) five)
+
+abbrev Low : Row → Type 0
+Low r = r .id ≤ 99999
+
+id-low : (l : List ℕ) → wellFormed l ≡ true → Low (rowOf l)
+id-low l e = go (fields l) (both-true (eqb (length (fields l)) 8) (all good (fields l)) e .1)
+  where
+    go : (fs : List (List ℕ)) → all good fs ≡ true → lib.ListN.getD (map value fs) 0 0 ≤ 99999
+    go [] h = omega arith
+    go (f ∷ fs) h = value-low f (both-true (good f) (all good fs) h .0)
+
+rows-low : (n : ℕ) (ls : List (List ℕ)) → 0 < n → firstBad n ls ≡ 0 → All Low (map rowOf ls)
+unfolding firstBad
+rows-low n [] h e = tt
+rows-low n (l ∷ ls) h e = test (wellFormed l)
+    (λ w. (id-low l w, rows-low (suc n) ls (omega arith) (rw w at e)))
+    (λ w. absurd (omega (arith, rw w at e)))
+
+text-low : (s : List ℕ) → badLine s ≡ 0 → All Low (rowsOf s)
+text-low s e = go (lines s) e
+  where
+    go : (ls : List (List ℕ)) → illFormed ls ≡ 0 → All Low (map rowOf (drop 1 ls))
+    go [] h = absurd (omega arith)
+    go (l ∷ ls) h = test (same l header) (λ w. rows-low 2 ls (omega arith) (rw w at h)) (λ w. absurd (omega (arith, rw w at h)))
+
+-- THE PLACE OF CHECKS 6 TO 12
+
+better-low : (hit : Bool) (id b : ℕ) → id ≤ 99999 → b ≤ 100000 → better hit id b ≤ 100000
+better-low false id b h k = k
+better-low true id b h k = test (eqb b 0)
+    (λ e. rw e (omega arith))
+    (λ e. rw e (test (ltb (id + 1) b) (λ l. rw l (omega arith)) (λ l. rw l k)))
+
+smallest-low : (p : Row → Bool) (b : ℕ) (rs : List Row) → All Low rs → b ≤ 100000 → smallest p b rs ≤ 100000
+unfolding smallest
+smallest-low p b [] h k = k
+smallest-low p b (r ∷ rs) h k = smallest-low p (better (p r) (r .id) b) rs (h .1) (better-low (p r) (r .id) b (h .0) k)
+
+abbrev SmallR : Refusal → Type 0
+SmallR f = SmallRefusal (f .number) (f .place)
+
+fault-small : (d n : ℕ) (rows : List Row) → All Low rows → n + d ≤ 13 → SmallR (firstFault d n rows)
+unfolding firstFault place
+fault-small zero n rows h k = (omega arith, omega arith)
+fault-small (suc d) n rows h k = test (eqb (place n rows) 0)
+    (λ e. rw e (fault-small d (suc n) rows h (omega arith)))
+    (λ e. rw e (omega arith, omega (arith, smallest-low (fault n rows) 0 rows h (omega arith))))
+
+-- THE LINE OF CHECK 4
+
+opened-length : (s : List ℕ) (ls : List (List ℕ)) → length (opened s ls) ≤ length ls
+opened-length [] ls = omega arith
+opened-length (b ∷ s) ls = omega arith
+
+push-length : (b : ℕ) (ls : List (List ℕ)) → length (push b ls) ≤ suc (length ls)
+push-length b [] = omega arith
+push-length b (l ∷ ls) = omega arith
+
+lines-length : (s : List ℕ) → length (lines s) ≤ suc (length s)
+unfolding lines
+lines-length [] = omega arith
+lines-length (b ∷ []) = omega arith
+lines-length (b ∷ c ∷ s) = test (breaks (b ∷ c ∷ s))
+    (λ e. rw e (omega (arith, opened-length s (lines s), lines-length s)))
+    (λ e. rw e (omega (arith, push-length b (lines (c ∷ s)), lines-length (c ∷ s))))
+
+bad-length : (n : ℕ) (ls : List (List ℕ)) → firstBad n ls ≤ n + length ls
+unfolding firstBad
+bad-length n [] = omega arith
+bad-length n (l ∷ ls) = test (wellFormed l) (λ e. rw e (omega (arith, bad-length (suc n) ls))) (λ e. rw e (omega arith))
+
+bad-low : (s : List ℕ) → length s ≤ 4096 → badLine s ≤ 99999
+bad-low s h = go (lines s) (omega (arith, lines-length s))
+  where
+    go : (ls : List (List ℕ)) → length ls ≤ 4097 → illFormed ls ≤ 99999
+    go [] k = omega arith
+    go (l ∷ ls) k = test (same l header) (λ e. rw e (omega (arith, bad-length 2 ls))) (λ e. rw e (omega arith))
+
+-- EVERY REFUSAL
+
+checked-small : (rows : List Row) (f : Refusal) → SmallR f → SmallR (checked rows f .refusal)
+unfolding checked
+checked-small rows f h = test (eqb (f .number) 0)
+    (λ e. test (leb (hyper rows) 100000) (λ g. rw (e, g) (omega arith, omega arith)) (λ g. rw (e, g) (omega arith, omega arith)))
+    (λ e. rw e h)
+
+rows-small : (rows : List Row) → All Low rows → SmallR (rowsChecked rows .refusal)
+unfolding rowsChecked
+rows-small rows h = test (within 1 16 (length rows))
+    (λ e. rw e (checked-small rows (firstFault 7 6 rows) (fault-small 7 6 rows h (omega arith))))
+    (λ e. rw e (omega arith, omega arith))
+
+read-small : (s : List ℕ) → SmallR (tableRead s .refusal)
+unfolding tableRead
+read-small s = test (leb (length s) 4096)
+    (λ e. test (eqb (badLine s) 0)
+    (λ f. rw (e, f) (rows-small (rowsOf s) (text-low s (eqb-true (badLine s) 0 f))))
+    (λ f. rw (e, f) (omega arith, bad-low s (leb-true (length s) 4096 e))))
+    (λ e. rw e (omega arith, omega arith))
+
+check-small : (n : ℕ) (b : Bool) (f : Refusal) → n ≤ 13 → SmallR f → SmallR (check n b f)
+check-small n true f h k = (h, omega arith)
+check-small n false f h k = k
