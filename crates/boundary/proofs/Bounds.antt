@@ -5,21 +5,36 @@ use mathlib.Core.Path.{_≡_, refl, ap}
 use mathlib.Core.Logic.{inl, inr}
 use mathlib.Core.Bool.{Bool, true, false, cond}
 use mathlib.Core.List.{List, [], _∷_, map}
-use Prim.Native.Nat.{ℕ, zero, suc, _+_, _*_, _-_, _/_, _^_, _≤_, _<_, pred}
-use native.Mathlib.Numerals.{add-zero}
-use native.Mathlib.Nat.{pow-suc, pow-le-pow-right}
+use Prim.Native.Nat.{ℕ, zero, suc, _+_, _*_, _-_, _/_, _%_, _^_, _≤_, _<_, pred}
+use native.Mathlib.Nat.{add-zero, zero-add, pow-suc, pow-le-pow-right}
 use native.Mathlib.Omega.{arith}
 use lib.Dec.{eqb, leb, ltb}
-use lib.ListN.{length, drop}
+use lib.ListN.{length, drop, getD}
 use borrow.Author.Tests.{eqb-true, leb-true, ltb-true, ltb-false}
 use Rattle.rules.specs.declared.Row.{Row}
 use Rattle.rules.specs.declared.Refusal.{Refusal}
 use Rattle.rules.specs.Text.{lines, header, same, fields, isDigit, digits, inner, good, closed, nil, behind, shaped, all, wellFormed, firstBad, illFormed, badLine, number, value, rowOf, rowsOf, breaks, opened, push}
+use Rattle.rules.specs.declared.Verdict.{Verdict}
+use Rattle.rules.specs.declared.Verdict.the-variants as verdict
+use Rattle.rules.specs.declared.ScheduleReply.{ScheduleReply}
+use Rattle.rules.specs.declared.ScheduleReply.the-variants as schedule
+use Rattle.rules.specs.Table.{omax, hyper}
+use Rattle.rules.specs.Checks.{better, smallest, fault, place, firstFault, checked, rowsChecked, tableRead, check, within, policyWrong, slotsWrong, verdictRefusal, slotsRefusal}
+use Rattle.rules.specs.Policies.{policy, row}
+use Rattle.rules.specs.Slots.{Choice, complete, run, stated}
+use Rattle.rules.specs.Decided.{missedAt}
+use Rattle.rules.specs.Verdicts.{tasksOf, systemOf, missedId, Decides, Replies, VerdictIs, response, Worst}
+use Rattle.rules.specs.Schedules.{Fills, Writes}
 use Rattle.basics.specs.Cases.{test, eq-case, clash, both-true}
+use Rattle.basics.specs.Search.{lowest-top}
 use Rattle.reordering.specs.All.{All}
-use Rattle.rules.specs.Checks.{better, smallest, fault, place, nothing, firstFault, checked, rowsChecked, tableRead, check, within, refused}
-use Rattle.rules.specs.Table.{hyper, tableOf}
-use Rattle.boundary.specs.Packed.{SmallRefusal}
+use Rattle.reordering.specs.Passed.{Fine, passed, passed-canonical}
+use Rattle.theory.specs.Policies.{policy-repeats}
+use Rattle.theory.specs.Rows.{Valid, at-most}
+use Rattle.checker.proofs.InHand.{sound, live-tasks}
+use Rattle.checker.proofs.SoundTables.{valid}
+use Rattle.boundary.specs.Packed.{SmallRefusal, Small, SmallSchedule}
+use Rattle.boundary.specs.Crossing.{bytesRefusal}
 
 -- AN ID OF AT MOST FIVE DIGITS
 
@@ -40,17 +55,19 @@ value-low f e =
     let ds = digits (inner f) in
     let shape = both-true (nil (behind f)) (shaped ds) (both-true (closed f) _ e .1) .1 in
     let five = leb-true (length ds) 5 (both-true (leb (length ds) 5) _ (both-true (leb 1 (length ds)) _ shape .1) .0) in
-    omega (arith, number-low (inner f) 0 0 (omega arith), pow-le-pow-right {n = 10} (omega arith) five)
+    let low : value f + 1 ≤ 10 ^ length ds = rw (zero-add (length ds)) at (number-low (inner f) 0 0 (omega arith)) in
+    omega (arith, pow-le-pow-right {n = 10} (omega arith) five)
 
 abbrev Low : Row → Type 0
 Low r = r .id ≤ 99999
 
+first-low : (fs : List (List ℕ)) → all good fs ≡ true → getD (map value fs) 0 0 ≤ 99999
+unfolding all
+first-low [] h = omega arith
+first-low (f ∷ fs) h = value-low f (both-true (good f) (all good fs) h .0)
+
 id-low : (l : List ℕ) → wellFormed l ≡ true → Low (rowOf l)
-id-low l e = go (fields l) (both-true (eqb (length (fields l)) 8) (all good (fields l)) e .1)
-  where
-    go : (fs : List (List ℕ)) → all good fs ≡ true → lib.ListN.getD (map value fs) 0 0 ≤ 99999
-    go [] h = omega arith
-    go (f ∷ fs) h = value-low f (both-true (good f) (all good fs) h .0)
+id-low l e = first-low (fields l) (both-true (eqb (length (fields l)) 8) (all good (fields l)) e .1)
 
 rows-low : (n : ℕ) (ls : List (List ℕ)) → 0 < n → firstBad n ls ≡ 0 → All Low (map rowOf ls)
 unfolding firstBad
@@ -144,3 +161,78 @@ read-small s = test (leb (length s) 4096)
 check-small : (n : ℕ) (b : Bool) (f : Refusal) → n ≤ 13 → SmallR f → SmallR (check n b f)
 check-small n true f h k = (h, omega arith)
 check-small n false f h k = k
+
+-- a check whose number is not 0 passes where none is given
+pub check-none : (n : ℕ) (b : Bool) (f : Refusal) → 0 < n → check n b f .number ≡ 0 → (b ≡ false) × (f .number ≡ 0)
+check-none n true f h e = absurd (omega arith)
+check-none n false f h e = (refl, e)
+
+-- A TABLE THAT PASSES
+
+row-low : (ws : List Row) → All Fine ws → (i : ℕ) → (row ws i .id ≤ 255) × (row ws i .period ≤ 10000)
+row-low [] h i = (omega arith, omega arith)
+row-low (w ∷ ws) h zero = (h .0 .id-high, h .0 .period-high)
+row-low (w ∷ ws) h (suc i) = row-low ws (h .1) i
+
+module _ (s : List ℕ) (fine : tableRead s .refusal .number ≡ 0) where
+  tasks-valid : Valid (tasksOf s)
+  tasks-valid = rw (live-tasks s fine) at (valid (tableRead s .table) (sound s fine))
+
+  pub tasks-few : length (tasksOf s) ≤ 16
+  tasks-few = tasks-valid .passes .count
+
+  task-low : (i : ℕ) → (row (tasksOf s) i .id ≤ 255) × (row (tasksOf s) i .period ≤ 10000)
+  task-low = row-low (tasksOf s) (passed-canonical (rowsOf s) (passed s fine .rows) .fine)
+
+  missed-low : (p : ℕ) (c : ℕ → Choice) (t : ℕ) → missedId (systemOf p s) c t ≤ 255
+  missed-low p c t = task-low (pred (missedAt (systemOf p s) c t)) .0
+
+  pub worst-low : (p i m : ℕ) → Worst (systemOf p s) i m → m ≤ 10001
+  unfolding response
+  worst-low p i m w =
+      let y = systemOf p s in
+      omega (arith, w .takes, task-low i .1, lowest-top (λ e. complete (run y (stated y) (w .at + suc e)) i) (y .row i .period))
+
+  decides-small : (p a : ℕ) (v : Verdict) → Decides (systemOf p s) (omax (tasksOf s)) (hyper (tasksOf s)) a v → Small v
+  decides-small p a (verdict.Accepted n) d = at-most (policy p) (policy-repeats p) (tasksOf s) tasks-valid n (inr (d .0))
+  decides-small p a (verdict.Missed t i) d = (at-most (policy p) (policy-repeats p) (tasksOf s) tasks-valid t (inl (d .0)), rw (d .2) (missed-low p (stated (systemOf p s)) t))
+  decides-small p a verdict.Undecided d = tt
+  decides-small p a (verdict.Refused n q) d = absurd d
+
+-- VERDICT AND RESPONSES
+replies-small : (f : Refusal) (p a : ℕ) (text : List ℕ) (v : Verdict) → SmallR f → (f .number ≡ 0 → tableRead text .refusal .number ≡ 0) → Replies f p a text v → Small v
+replies-small f p a text v h fine r = eq-case (f .number) 0
+    (λ e. decides-small text (fine e) p a v (r .decided e))
+    (λ e. rw (r .refused e) h)
+
+pub verdict-small : (p a : ℕ) (text : List ℕ) (v : Verdict) → VerdictIs p a text v → Small v
+verdict-small p a text v = replies-small (verdictRefusal p text) p a text v
+    (check-small 1 (policyWrong p) (tableRead text .refusal) (omega arith) (read-small text))
+    (λ e. check-none 1 (policyWrong p) (tableRead text .refusal) (omega arith) e .1)
+
+pub bytes-small : (p a n : ℕ) (text : List ℕ) (v : Verdict) → Replies (bytesRefusal p n text) p a text v → Small v
+bytes-small p a n text v =
+    let f = tableRead text .refusal in
+    let g = check 2 (ltb n 64) f in
+    replies-small (bytesRefusal p n text) p a text v
+    (check-small 1 (policyWrong p) g (omega arith) (check-small 2 (ltb n 64) f (omega arith) (read-small text)))
+    (λ e. check-none 2 (ltb n 64) f (omega arith) (check-none 1 (policyWrong p) g (omega arith) e .1) .1)
+
+-- SCHEDULE AND AS RUN
+slots-low : (n : ℕ) → slotsWrong n ≡ false → n ≤ 65536
+slots-low n e = test (eqb (n % 2) 0) (λ h. ltb-false 65536 n (rw h at e)) (λ h. clash refl (rw h at e))
+
+pub writes-small : (p : ℕ) (text : List ℕ) (c : ℕ → Choice) (before after : List ℕ) (v : ScheduleReply)
+    → Writes (slotsRefusal p (length before) text) (systemOf p text) c before after v → SmallSchedule v
+writes-small p text c before after v w =
+    let f = tableRead text .refusal in
+    let g = check 2 (slotsWrong (length before)) f in
+    eq-case (slotsRefusal p (length before) text .number) 0
+    (λ e. let second = check-none 2 (slotsWrong (length before)) f (omega arith) (check-none 1 (policyWrong p) g (omega arith) e .1) in
+    go v (second .0) (second .1) (w .filled e .0))
+    (λ e. rw (w .refused e .0) (check-small 1 (policyWrong p) g (omega arith) (check-small 2 (slotsWrong (length before)) f (omega arith) (read-small text))))
+  where
+    go : (v : ScheduleReply) → slotsWrong (length before) ≡ false → tableRead text .refusal .number ≡ 0 → Fills (systemOf p text) c (length before / 2) v → SmallSchedule v
+    go schedule.Filled h fine d = tt
+    go (schedule.Missed t i) h fine d = (omega (arith, d .1, slots-low (length before) h), rw (d .2) (missed-low text fine p c t))
+    go (schedule.Refused n q) h fine d = absurd d

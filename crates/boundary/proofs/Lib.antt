@@ -1,3 +1,4 @@
 -- Laws that belong to no one function.
 pub mod Numbers
 pub mod Bounds
+pub mod Held

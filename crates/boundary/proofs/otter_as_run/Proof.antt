@@ -1,3 +1,6 @@
+use Rattle.rules.specs.AsRun.{listed}
+use Rattle.rules.specs.Verdicts.{systemOf}
+use Rattle.boundary.proofs.Bounds.{writes-small}
 use borrow.Author.Needs.{needs}
 use Rattle.boundary.proofs.otter_as_run.Statement.{statement}
 use Rattle.boundary.proofs.otter_as_run.Tie as tie
@@ -8,11 +11,11 @@ use Rattle.checker.proofs.as_run.Reads as as-run-reads
 
 -- src/lib.rt:57:20
 as-run-requires : tie.Need-as-run-requires
-as-run-requires c κs = ?
+as-run-requires c κs = search needs
 
 -- src/lib.rt:57:5
 schedule-requires : tie.Need-schedule-requires
-schedule-requires c κs = ?
+schedule-requires c κs = let a = c .before .before .before .before .before .before .before .before .args in writes-small (a .policy) (a .text .now) (listed (systemOf (a .policy) (a .text .now)) (a .requests .now) (a .loadings .now)) (a .slots .now) _ (c .before .before .as-run .result) (c .before .before .as-run .ensures)
 
 -- src/lib.rt:47:1
 same-length : tie.Need-same-length
