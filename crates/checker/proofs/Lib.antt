@@ -1,5 +1,6 @@
 pub mod InHand
 pub mod Jobs
+pub mod Legs
 pub mod Marks
 pub mod Painted
 pub mod Pass
