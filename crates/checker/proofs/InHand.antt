@@ -32,10 +32,10 @@ sound-rows rows p =
 
 module _ (s : List ℕ) (fine : tableRead s .refusal .number ≡ 0) where
   pub sound : Sound (tableRead s .table)
-  sound = rw (passed s fine .read) (sound-rows (rowsOf s) (passed s fine .rows))
+  sound = rw (passed s fine .table) (sound-rows (rowsOf s) (passed s fine .rows))
 
   pub live-tasks : live (tableRead s .table) ≡ tasksOf s
-  live-tasks = rw (passed s fine .read) (canonical-rows (rowsOf s) (passed s fine .rows .few))
+  live-tasks = rw (passed s fine .table) (canonical-rows (rowsOf s) (passed s fine .rows .few))
 
   pub system-in : (p : ℕ) → systemIn p (tableRead s .table) ≡ systemOf p s
   system-in p = ap (system (policy p)) live-tasks

@@ -10,7 +10,6 @@ use native.Mathlib.Omega.{arith}
 use borrow.Author.Tests.{leb-true, leb-false, lt-ltb, le-ltb, eq-eqb, ne-eqb}
 use lib.Dec.{eqb, eqb·suc-zero}
 use lib.ListN.{length, getD}
-use lib.Seq.{getD-take}
 use Rattle.rules.specs.declared.Row.{Row}
 use Rattle.rules.specs.declared.Table.{Table}
 use Rattle.rules.specs.Table.{noRow}
@@ -18,7 +17,7 @@ use Rattle.rules.specs.Policies as policies
 use Rattle.rules.specs.Slots as rules
 use Rattle.rules.specs.AsRun.{asRun}
 use Rattle.basics.specs.Cases.{test, le-case, eq-case, clash}
-use Rattle.reordering.specs.Passed.{Fine, fine-at}
+use Rattle.reordering.specs.Passed.{Fine}
 use Rattle.theory.specs.Order.{First, pick-first}
 use Rattle.theory.specs.Runs.{unreleased}
 use Rattle.theory.specs.Counters.{until, due-until}
@@ -27,24 +26,7 @@ use Rattle.slots.specs.declared.Job.{Job}
 use Rattle.slots.specs.Jobs.{lateOf, missedOf}
 use Rattle.checker.specs.declared.machine.State.{State}
 use Rattle.checker.specs.Machine.{live, Sound, systemIn, choices, stateAt, missAt, noJob, jobOf, JobAt, At}
-
--- THE ROWS
-
-within : {A : Type 0} (l : List A) (i : ℕ) (d e : A) → i < length l → getD l i d ≡ getD l i e
-within [] i d e h = absurd (omega arith)
-within (x ∷ l) zero d e h = refl
-within (x ∷ l) (suc i) d e h = within l i d e (omega arith)
-
-pub count-top : (t : Table) → Sound t → t .count ≤ 16
-count-top t s = omega (arith, s .passed .few, s .count)
-
-pub row-in : (t : Table) → Sound t → (i : ℕ) → i < t .count → policies.row (live t) i ≡ getD (t .rows) i noRow
-row-in t s i h = getD-take (t .count) (t .rows) i policies.blank h ∙ within (t .rows) i policies.blank noRow (omega (arith, count-top t s, s .full))
-
-pub fine-in : (t : Table) → Sound t → (i : ℕ) → i < t .count → Fine (policies.row (live t) i)
-fine-in t s i h =
-    let low : i < length (live t) = omega (arith, s .count) in
-    rw (within (live t) i policies.blank noRow low) (fine-at (live t) (s .passed) i low)
+use Rattle.checker.proofs.SoundTables.{count-top, row-in, fine-in}
 
 -- A DEADLINE
 

@@ -30,7 +30,7 @@ use Rattle.checker.specs.declared.machine.Stop.{Stop}
 use Rattle.checker.specs.declared.decide.Outcome.{Outcome}
 use Rattle.checker.specs.Machine.{live, Sound, systemIn, choices, stateAt, missAt, jobOf, At, Went, Alike}
 use Rattle.checker.specs.Outcomes.{Ended, Outcomes}
-use Rattle.checker.proofs.SoundTables.{valid, row-is, deadline-some}
+use Rattle.checker.proofs.SoundTables.{valid, id-in, deadline-some}
 
 -- with no lists the run in hand is the schedule
 module _ (p : ℕ) (t : Table) where
@@ -67,9 +67,6 @@ next-mark : (o h k i : ℕ) → k ≤ i → o + k * h + h ≤ o + suc i * h
 next-mark o h k i a =
     let b : k * h ≤ i * h = mul-le-mul-right h a in
     omega arith
-
-before : (m n : ℕ) → m ≡ n → m - 1 ≡ pred n
-before m n e = omega arith
 
 module _ (p : ℕ) (t : Table) (g : Sound t) where
   -- what the theory asks
@@ -184,8 +181,7 @@ module _ (p : ℕ) (t : Table) (g : Sound t) where
         }
 
         its-id : getD (t .rows) (q .miss - 1) noRow .id ≡ missedId (systemIn p t) (rules.stated (systemIn p t)) (from + q .ran)
-        its-id = ap (λ (x : Row). x .id) (row-is t g (q .miss - 1) (omega (arith, w .task)))
-            ∙ ap (λ (i : ℕ). policies.row (live t) i .id) (before (q .miss) _ (w .end ∙ miss-stated p t (from + q .ran)))
+        its-id = id-in t g (q .miss) h (w .task) ∙ ap (λ (m : ℕ). policies.row (live t) (pred m) .id) (w .end ∙ miss-stated p t (from + q .ran))
 
         apart : (n : ℕ) → r .verdict ≡ Accepted n → _≡_ {A = ℕ} 0 1
         apart n e = cc (d .missed h)

@@ -30,7 +30,8 @@ use Rattle.checker.specs.declared.look.Found.{Found}
 use Rattle.checker.specs.declared.look.Looked.{Looked}
 use Rattle.checker.specs.Turns.{noneFound, lookedOf}
 use Rattle.checker.specs.Machine.{live, Sound, systemIn, choices, stateAt, noJob, jobOf, JobAt, At}
-use Rattle.checker.proofs.Jobs.{row-in, fine-in, missed-turn, count-top}
+use Rattle.checker.proofs.SoundTables.{row-in, fine-in, count-top}
+use Rattle.checker.proofs.Jobs.{missed-turn}
 
 -- COUNTDOWNS
 

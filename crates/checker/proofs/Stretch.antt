@@ -38,7 +38,8 @@ use Rattle.checker.specs.declared.turn.Spent.{Spent}
 use Rattle.checker.specs.Turns.{clipOf, beginsOf, loadOf, spentOf}
 use Rattle.checker.specs.Machine.{live, Sound, systemIn, choices, stateAt, missAt, noJob, jobOf, JobAt, At, PaintedRun}
 use Rattle.checker.specs.Paint.{Painted, stretchId, stretchKind}
-use Rattle.checker.proofs.Jobs.{row-in, fine-in, count-top, pick-top}
+use Rattle.checker.proofs.SoundTables.{row-in, fine-in, count-top}
+use Rattle.checker.proofs.Jobs.{pick-top}
 use Rattle.checker.proofs.Painted.{painted-as}
 use Rattle.checker.proofs.Pass.{until-release, until-go, JoinedAt, Reaches, used-drop, nowIn, keyWith, keys, Picked, Passing}
 

@@ -9,10 +9,9 @@ use Prim.Native.Nat.{ℕ, zero, suc, _+_, _-_, _*_, _/_, _%_, _≤_, _<_, pred}
 use native.Mathlib.Omega.{arith}
 use lib.Dec.{eqb}
 use lib.ListN.{getD, length, drop}
-use lib.Seq.{drop-cons, drop-length, getD-take}
+use lib.Seq.{drop-cons, drop-length}
 use borrow.Author.Tests.{eq-eqb, ne-eqb, eqb-true}
 use Rattle.rules.specs.declared.Refusal.{Refusal}
-use Rattle.rules.specs.declared.Row.{Row}
 use Rattle.rules.specs.declared.ScheduleReply.{ScheduleReply}
 use Rattle.rules.specs.declared.ScheduleReply.the-variants.{Filled, Missed, Refused}
 use Rattle.rules.specs.declared.Table.{Table}
@@ -32,6 +31,7 @@ use Rattle.checker.specs.Machine.{Sound, live, systemIn, choices, missAt
 use Rattle.checker.specs.Paint.{Painted}
 use Rattle.checker.proofs.InHand.{sound-read, system-read}
 use Rattle.checker.proofs.Painted.{painted-none}
+use Rattle.checker.proofs.SoundTables.{id-in}
 
 -- THE BYTES
 
@@ -81,18 +81,6 @@ module _ (y : policies.System) (c : ℕ → Choice) where
     written-whole h = written-from n 0 (omega arith) (omega arith)
 
 -- THE REPLY OF A TABLE IN HAND: a leg from time 0 over the slots there is room for
-
-any-default : (ws : List Row) (i : ℕ) (d e : Row) → i < length ws → getD ws i d ≡ getD ws i e
-any-default [] i d e h = absurd (omega arith)
-any-default (w ∷ ws) zero d e h = refl
-any-default (w ∷ ws) (suc i) d e h = any-default ws i d e (omega arith)
-
--- the id of task m - 1, as the code reads it and as the rules do
-id-in : (t : Table) → Sound t → (m : ℕ) → 0 < m → m ≤ t .count → getD (t .rows) (m - 1) noRow .id ≡ policies.row (live t) (pred m) .id
-id-in t s m pos high =
-    let e : m - 1 ≡ pred m = omega arith in
-    let h : pred m < t .count = omega arith in
-    rw (e, ← (getD-take (t .count) (t .rows) (pred m) noRow h)) (ap (λ (w : Row). w .id) (any-default (live t) (pred m) noRow policies.blank (omega (arith, s .count))))
 
 slots-even : (n : ℕ) → slotsWrong n ≡ false → n ≡ n / 2 * 2
 slots-even n h = test (eqb (n % 2) 0) (λ e. omega (arith, eqb-true (n % 2) 0 e)) (λ e. clash refl (rw e at h))

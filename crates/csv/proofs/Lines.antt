@@ -11,7 +11,7 @@ use lib.Dec.{eqb, ltb}
 use lib.ListN.{length, take, drop, getD, set, replicate, length-drop, length-append, drop-of-length-le, length-take}
 use lib.Seq.{drop-cons, take-append-le, take-set-lt, set-append-seam, set-out}
 use borrow.Author.Tests.{eq-eqb, ne-eqb, eqb-true, ltb-true, ltb-false}
-use Rattle.rules.specs.Table.{noRow}
+use Rattle.rules.specs.Table.{noRow, padded}
 use Rattle.rules.specs.Text.{nil, breaks, opened, lines, wellFormed, rowOf, header, same, firstBad, badLine, rowsOf}
 use Rattle.csv.specs.Reader.{line, after, stop, width, begins, headAt, keptOf, keepOf, readingOf, rowAt}
 use Rattle.rules.specs.declared.Row.{Row}
@@ -19,7 +19,7 @@ use Rattle.csv.specs.declared.RowRead.{RowRead}
 use Rattle.csv.specs.declared.Kept.{Kept}
 use Rattle.basics.specs.Cases.{test, clash, eq-case, both-true}
 use Rattle.csv.proofs.Fields.{part-rest, width-le}
-use Rattle.csv.proofs.Rows.{is-cr}
+use Rattle.csv.proofs.Rows.{is-cr, comma-breaks}
 
 -- the lines that a text opens after a line end
 unfoldable pub more : List ℕ → List (List ℕ)
@@ -160,14 +160,13 @@ module _ (s : List ℕ) where
 
     stop-text-end : (v : List ℕ) → stop v ≡ 3 → (ends v ≡ true) × (length v ≡ 0)
     stop-text-end [] h = (refl, refl)
-    stop-text-end (b ∷ s) h = test (breaks (b ∷ s)) (λ e. test (eqb b 44) (λ f. absurd (omega (arith, rw f at h))) (λ f. absurd (omega (arith, rw (f, e) at h)))) (λ e. test (eqb b 44) (λ f. absurd (omega (arith, rw f at h))) (λ f. absurd (omega (arith, rw (f, e) at h))))
+    stop-text-end (b ∷ s) h = test (eqb b 44)
+        (λ f. absurd (omega (arith, rw f at h)))
+        (λ f. test (breaks (b ∷ s)) (λ e. absurd (omega (arith, rw (f, e) at h))) (λ e. absurd (omega (arith, rw (f, e) at h))))
 
     stop-no-end : (v : List ℕ) → stop v ≢ 2 → stop v ≢ 3 → ends v ≡ false
     stop-no-end [] m n = absurd (n refl)
-    stop-no-end (b ∷ s) m n = test (breaks (b ∷ s)) (λ e. test (eqb b 44) (λ f. clash e (comma-off b s f)) (λ f. absurd (m (rw (f, e))))) (λ e. e)
-      where
-        comma-off : (b : ℕ) (s : List ℕ) → eqb b 44 ≡ true → breaks (b ∷ s) ≡ false
-        comma-off b s f = test (breaks (b ∷ s)) (λ e. absurd (omega (arith, is-cr b s e, eqb-true b 44 f))) (λ e. e)
+    stop-no-end (b ∷ s) m n = test (breaks (b ∷ s)) (λ e. test (eqb b 44) (λ f. clash e (comma-breaks b s f)) (λ f. absurd (m (rw (f, e))))) (λ e. e)
 
     module _ (k : ℕ) (f : k ≡ stop (take (length s - 52) (drop 52 s))) where
       plain : k ≡ stop (drop 52 s)
@@ -209,24 +208,24 @@ module _ (t : List ℕ) (r : RowRead) (e : r ≡ rowAt t) where
     row-less some = omega (arith, ap length row-left, after-short t some)
 
 -- sixteen rows kept
-keep-rows : (acc : List Row) (r : Row) → set (take 16 (acc ++ replicate 16 noRow)) (length acc) r ≡ take 16 ((acc ++ (r ∷ [])) ++ replicate 16 noRow)
+keep-rows : (acc : List Row) (r : Row) → set (padded acc) (length acc) r ≡ padded (acc ++ (r ∷ []))
 keep-rows acc r = test (ltb (length acc) 16) (λ e. few (ltb-true (length acc) 16 e)) (λ e. many (ltb-false (length acc) 16 e))
   where
     flat : (acc ++ (r ∷ [])) ++ replicate 16 noRow ≡ acc ++ (r ∷ replicate 16 noRow)
     flat = append-assoc acc (r ∷ []) (replicate 16 noRow)
 
-    few : length acc < 16 → set (take 16 (acc ++ replicate 16 noRow)) (length acc) r ≡ take 16 ((acc ++ (r ∷ [])) ++ replicate 16 noRow)
+    few : length acc < 16 → set (padded acc) (length acc) r ≡ padded (acc ++ (r ∷ []))
     few h =
-        let a : set (take 16 (acc ++ replicate 16 noRow)) (length acc) r ≡ take 16 (acc ++ (r ∷ replicate 15 noRow)) =
+        let a : set (padded acc) (length acc) r ≡ take 16 (acc ++ (r ∷ replicate 15 noRow)) =
         sym (take-set-lt 16 (acc ++ replicate 16 noRow) (length acc) r h) ∙ ap (take 16) (set-append-seam acc noRow (replicate 15 noRow) r) in
         let long : 16 ≤ length (acc ++ (r ∷ replicate 15 noRow)) = omega (arith, length-append acc (r ∷ replicate 15 noRow)) in
         let b : take 16 ((acc ++ (r ∷ replicate 15 noRow)) ++ (noRow ∷ [])) ≡ take 16 (acc ++ (r ∷ replicate 15 noRow)) = take-append-le 16 (acc ++ (r ∷ replicate 15 noRow)) (noRow ∷ []) long in
         let d : (acc ++ (r ∷ replicate 15 noRow)) ++ (noRow ∷ []) ≡ acc ++ (r ∷ replicate 16 noRow) = append-assoc acc (r ∷ replicate 15 noRow) (noRow ∷ []) in
         a ∙ sym b ∙ ap (take 16) (d ∙ sym flat)
 
-    many : 16 ≤ length acc → set (take 16 (acc ++ replicate 16 noRow)) (length acc) r ≡ take 16 ((acc ++ (r ∷ [])) ++ replicate 16 noRow)
+    many : 16 ≤ length acc → set (padded acc) (length acc) r ≡ padded (acc ++ (r ∷ []))
     many h =
-        let short : length (take 16 (acc ++ replicate 16 noRow)) ≤ length acc = omega (arith, length-take 16 (acc ++ replicate 16 noRow)) in
+        let short : length (padded acc) ≤ length acc = omega (arith, length-take 16 (acc ++ replicate 16 noRow)) in
         set-out _ (length acc) r short ∙ take-append-le 16 acc (replicate 16 noRow) h ∙ sym (take-append-le 16 acc (r ∷ replicate 16 noRow) h) ∙ ap (take 16) (sym flat)
 
 keep-one : (acc : List Row) (r : Row) → keepOf (keptOf acc) r ≡ keptOf (acc ++ (r ∷ []))

@@ -4,17 +4,14 @@
 -- is the loop of read_row.
 use mathlib.Core.Path.{_≡_, refl, sym, ap, _∙_}
 use mathlib.Core.Logic.{_≢_}
-use mathlib.Core.Bool.{Bool, true, false, cond, _&&_, not}
-use mathlib.Core.List.{List, [], _∷_, _++_, map}
+use mathlib.Core.Bool.{Bool, true, false, cond, _&&_, not, and-true, and-false}
+use mathlib.Core.List.{List, [], _∷_, _++_, map, append-nil, append-assoc}
 use Prim.Native.Nat.{ℕ, zero, suc, _+_, _-_, _≤_, _<_}
 use native.Mathlib.Numerals.{add-one}
 use native.Mathlib.Omega.{arith}
-use lib.Dec.{eqb, leb}
-use lib.ListN.{length, take, drop, getD, length-drop}
+use lib.Dec.{eqb, leb, eqb·suc-zero, eqb·suc-suc}
+use lib.ListN.{length, take, drop, getD, length-drop, set, length-set}
 use lib.Seq.{drop-drop, take-suc-set, take-all}
-use lib.ListN.{set, length-set}
-use mathlib.Core.List.{append-nil, append-assoc}
-use lib.Dec.{eqb·suc-zero, eqb·suc-suc}
 use borrow.Author.Tests.{ne-eqb, eqb-true, leb-true}
 use Rattle.rules.specs.Table.{noRow}
 use Rattle.rules.specs.Text.{nil, breaks, fields, isDigit, digits, past, opens, inner, behind, closed, shaped, good, value, all, rowFrom}
@@ -23,7 +20,7 @@ use Rattle.basics.specs.Cases.{test, clash, eq-case, both-true}
 use Rattle.csv.proofs.Fields.{inner-past, past-behind, part-rest}
 
 -- the first field of the first line, what ends it, and what follows its comma or CR LF
-unfoldable pub first : List ℕ → List ℕ
+unfoldable first : List ℕ → List ℕ
 first [] = []
 first (b ∷ s) = cond (eqb b 44) [] (cond (breaks (b ∷ s)) [] (b ∷ first s))
 
@@ -55,7 +52,7 @@ no-break b s e = test (eqb (getD s 0 0) 10) (λ f. rw (f, e)) (λ f. rw f)
 pub is-cr : (b : ℕ) (s : List ℕ) → breaks (b ∷ s) ≡ true → b ≡ 13
 is-cr b s e = eqb-true b 13 (both-true (eqb (getD s 0 0) 10) (eqb b 13) e .1)
 
-comma-breaks : (b : ℕ) (s : List ℕ) → eqb b 44 ≡ true → breaks (b ∷ s) ≡ false
+pub comma-breaks : (b : ℕ) (s : List ℕ) → eqb b 44 ≡ true → breaks (b ∷ s) ≡ false
 comma-breaks b s e = no-break b s (ne-eqb b 13 (λ f. omega (arith, eqb-true b 44 e)))
 
 fields-first : (s : List ℕ) → fields (line s) ≡ first s ∷ cond (eqb (over s) 1) (fields (line (next s))) []
@@ -174,16 +171,8 @@ good-first s = test (closed s)
     same = ap shaped (ap digits (inner-first s) ∙ digits-first (inner s))
 
     go : (a b : Bool) (k : ℕ) → a ≡ b → (not (eqb k 0) && a) ≡ not (eqb (cond b k 0) 0)
-    go a true k e = rw e (right (not (eqb k 0)))
-      where
-        right : (x : Bool) → (x && true) ≡ x
-        right true = refl
-        right false = refl
-    go a false k e = rw e (right (not (eqb k 0)))
-      where
-        right : (x : Bool) → (x && false) ≡ false
-        right true = refl
-        right false = refl
+    go a true k e = rw e (and-true (not (eqb k 0)))
+    go a false k e = rw e (and-false (not (eqb k 0)))
 
     none : (b : Bool) → false ≡ not (eqb (cond b 0 0) 0)
     none true = refl
@@ -257,10 +246,6 @@ module _ (s : List ℕ) (n : kindAt s ≢ 0) where
       a ∙ b ∙ rw (ne-eqb (kindAt s) 0 n) (ap (drop (width (kindAt s))) d ∙ drop-drop (width (kindAt s)) (quotes s + length (digits (inner s)) + quotes s) s)
 
 -- n + 1 fields read one after the other are the line's fields
-and-false : (x : Bool) → (x && false) ≡ false
-and-false true = refl
-and-false false = refl
-
 line-fields : (s : List ℕ) → 1 ≤ length (fields (line s))
 line-fields s = omega (arith, ap length (fields-first s))
 
@@ -316,9 +301,6 @@ fields-values (suc m) s h =
     let r = fields-values m (next s) (f .1) in
     (rw (fields-first s, e, value-first s) (ap (λ l. value s ∷ l) (r .0)), rw (after-first s, e) (r .1))
 
-snoc-on : (xs : List ℕ) (x : ℕ) (ys : List ℕ) → (xs ++ (x ∷ [])) ++ ys ≡ xs ++ (x ∷ ys)
-snoc-on xs x ys = append-assoc xs (x ∷ []) ys
-
 -- k of the eight fields of the line at the front of s are read into v; t is what is left, from at on
 module _ (s : List ℕ) where
   abbrev pub Filling : List ℕ → List ℕ → ℕ → ℕ → Type 0
@@ -354,7 +336,7 @@ module _ (s : List ℕ) where
             rw (part-rest m t, r .2) (drop-drop m at s),
             length-set v k x ∙ r .3,
             r .4 ∙ rw (n, n′, e) (ap (goodFrom (7 - k)) on),
-            r .5 ∙ rw (n, n′, ← ex, on, add-one k, take-suc-set v k x room) (sym (snoc-on (take k v) x _)),
+            r .5 ∙ rw (n, n′, ← ex, on, add-one k, take-suc-set v k x room) (sym (append-assoc (take k v) (x ∷ []) _)),
             r .6 ∙ rw (n, n′) (ap (restFrom (7 - k)) on),
           )
 

@@ -11,6 +11,7 @@ use lib.ListN.{length, getD}
 use borrow.Author.Tests.{eqb-true, eq-eqb, eqb-false, ne-eqb, leb-true, leb-false, ltb-false, not-false}
 use Rattle.rules.specs.declared.Row.{Row}
 use Rattle.rules.specs.declared.Refusal.{Refusal}
+use Rattle.rules.specs.declared.TableRead.{TableRead}
 use Rattle.rules.specs.Text.{badLine, rowsOf}
 use Rattle.rules.specs.Table.{noRow, canonical, hyper, tableOf}
 use Rattle.rules.specs.Checks.{within, idWrong, timeWrong, priorityWrong, orderWrong, resumeWrong, key, times, shared, fault, better, smallest, place, nothing, firstFault, checked, rowsChecked, tableRead}
@@ -47,7 +48,8 @@ pub record PassedText (s : List ℕ) : Type 0 where
   pub short : length s ≤ 4096
   pub well-formed : badLine s ≡ 0
   pub rows : Passed (rowsOf s)
-  pub read : tableRead s ≡ record { refusal = nothing; table = tableOf (rowsOf s) }
+  pub refusal : tableRead s .refusal ≡ nothing
+  pub table : tableRead s .table ≡ tableOf (rowsOf s)
 
 -- THE FIRST THAT FAILS: where none is given, check n finds no row, n from 6 to 12
 
@@ -197,7 +199,13 @@ unfolding tableRead
 passed s h = test (leb (length s) 4096)
     (λ e. test (eqb (badLine s) 0)
     (λ f. let r = passed-rows (rowsOf s) (rw (e, f) at h) in
-    record { short = leb-true (length s) 4096 e; well-formed = eqb-true (badLine s) 0 f; rows = r .0; read = rw (e, f) (r .1) })
+    record {
+      short = leb-true (length s) 4096 e;
+      well-formed = eqb-true (badLine s) 0 f;
+      rows = r .0;
+      refusal = rw (e, f) (ap (λ (x : TableRead). x .refusal) (r .1));
+      table = rw (e, f) (ap (λ (x : TableRead). x .table) (r .1));
+    })
     (λ f. absurd (omega (arith, rw (e, f) at h))))
     (λ e. absurd (omega (arith, rw e at h)))
 

@@ -15,12 +15,13 @@ use Rattle.rules.specs.Slots.{stated}
 use Rattle.rules.specs.Decided.{missedAt, EarliestMiss, Settles, SlotsNeeded}
 use Rattle.rules.specs.Verdicts.{plain, missedId, Worst}
 use Rattle.basics.specs.Cases.{both-true, every, each}
+use Rattle.reordering.specs.All.{All}
 use Rattle.theory.specs.Policies.{policy-repeats}
 use Rattle.theory.specs.Twin.{slots}
 use Rattle.theory.specs.Times.{Short, Turn}
 use Rattle.theory.specs.Decides.{Within}
 use Rattle.theory.specs.Responses.{worst, worst-is}
-use Rattle.theory.specs.Rows.{Fits, All, Passes, Valid, shorts, turn, within, needed}
+use Rattle.theory.specs.Rows.{Fits, Passes, Valid, shorts, turn, within, needed}
 
 -- a worked table: the policy's number, the rows in ascending id, the slots needed, the missed id or 0, and, where stated,
 -- the worst responses in ascending id

@@ -2,15 +2,11 @@
 -- end the stated times hold, so the schedule is as run with no list.
 use mathlib.Core.Path.{_≡_, refl, ap, fun-ext}
 use mathlib.Core.List.{List, []}
-use Prim.Native.Nat.{ℕ, zero, suc, _<_}
+use Prim.Native.Nat.{ℕ, zero, suc}
 use lib.Seq.{drop-nil}
 use Rattle.rules.specs.Policies.{System}
-use Rattle.rules.specs.Slots.{Choice, step, run, stated}
-use Rattle.rules.specs.Decided.{NeverMissed}
-use Rattle.rules.specs.AsRun.{asRun, chosen, listed}
-use Rattle.rules.specs.Demands.{KeepsTime}
-use Rattle.theory.specs.Times.{Quick, Short}
-use Rattle.theory.specs.Demand3.{keeps-time}
+use Rattle.rules.specs.Slots.{step, run, stated}
+use Rattle.rules.specs.AsRun.{asRun, listed}
 
 pub as-run : (y : System) (xs zs : List ℕ) (t : ℕ) → asRun y xs zs t .state ≡ run y (listed y xs zs) t
 unfolding asRun run
@@ -25,8 +21,3 @@ ends y (suc t) = let e = ends y t in (simp (e .0, drop-nil), simp (e .1, drop-ni
 
 pub listed-nothing : (y : System) → listed y [] [] ≡ stated y
 listed-nothing y = fun-ext (λ t. let e = ends y t in rw (e .0, e .1) refl)
-
--- demand 3 speaks of it
-pub as-run-keeps-time : (y : System) → Quick y → Short y → ((i : ℕ) → i < y .tasks → 0 < y .row i .deadline) → NeverMissed y
-    → (xs zs : List ℕ) → KeepsTime y (listed y xs zs)
-as-run-keeps-time y quick short some never xs zs = keeps-time y quick short some never (listed y xs zs)

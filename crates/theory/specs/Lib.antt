@@ -20,3 +20,5 @@ pub mod Counters
 pub mod Jump
 pub mod Completions
 pub mod Lists
+pub mod Texts
+pub mod Reordered

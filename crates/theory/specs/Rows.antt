@@ -15,6 +15,7 @@ use Rattle.rules.specs.Decided.{SlotsNeeded}
 use Rattle.rules.specs.Verdicts.{plain}
 use Rattle.basics.specs.Cases.{both-true}
 use Rattle.basics.specs.Search.{lowest-holds}
+use Rattle.reordering.specs.All.{All}
 use Rattle.theory.specs.Policies.{Repeats}
 use Rattle.theory.specs.Times.{Quick, Short, Turn}
 use Rattle.theory.specs.Twin.{slots}
@@ -26,10 +27,6 @@ pub record Fits (w : Row) : Type 0 where
   pub wcet : w .wcet ≤ 10000
   pub start : w .start ≤ 10000
   pub offset : w .offset ≤ 10000
-
-abbrev pub All : (Row → Type 0) → List Row → Type 0
-All P [] = Unit
-All P (w ∷ ws) = P w × All P ws
 
 pub record Passes (ws : List Row) : Type 0 where
   pub rows : All Fits ws

@@ -2,8 +2,8 @@
 use mathlib.Core.Path.{_≡_, sym, _∙_}
 use mathlib.Core.Logic.{_↔_}
 use mathlib.Core.Bool.{true, false}
-use Prim.Native.Nat.{ℕ, zero, suc, _+_, _-_, _%_, _≤_, _<_}
-use native.Mathlib.Nat.{add-zero, add-mod, mod-mod, mod-le, mod-eq-of-lt, zero-mod, sub-self}
+use Prim.Native.Nat.{ℕ, zero, suc, _+_, _-_, _*_, _/_, _%_, _≤_, _<_}
+use native.Mathlib.Nat.{add-zero, add-mod, mod-mod, mod-le, mod-eq-of-lt, zero-mod, sub-self, mul-mod-left, div-add-mod'}
 use native.Mathlib.Omega.{arith}
 use borrow.Author.Tests.{leb-true, eqb-true, le-leb}
 use lib.Dec.{leb, eqb}
@@ -42,6 +42,15 @@ released-is w t h = let k = both-true (leb (w .offset) t) (eqb ((t - w .offset) 
 pub is-released : (w : Row) (t : ℕ) → w .offset ≤ t → (t - w .offset) % w .period ≡ 0 → released w t ≡ true
 unfolding released
 is-released w t h e = rw (le-leb (w .offset) t h, e)
+
+-- "Job k (1, 2, ..) of a task is released at offset + (k−1) × period", and at no other time
+pub job-released : (w : Row) (k : ℕ) → released w (w .offset + k * w .period) ≡ true
+job-released w k =
+    let e : w .offset + k * w .period - w .offset ≡ k * w .period = omega arith in
+    is-released w (w .offset + k * w .period) (omega arith) (rw e (mul-mod-left k (w .period)))
+
+pub released-job : (w : Row) (t : ℕ) → released w t ≡ true → t ≡ w .offset + (t - w .offset) / w .period * w .period
+released-job w t e = let k = released-is w t e in omega (arith, k .0, k .1, div-add-mod' (t - w .offset) (w .period))
 
 pub released-from : (w : Row) (t : ℕ) → released w t ≡ true → w .offset ≤ t
 released-from w t h = released-is w t h .0

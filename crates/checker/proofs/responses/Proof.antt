@@ -7,11 +7,11 @@ use borrow.Author.Tests.{ltb-false}
 use lib.ListN.{length}
 use Rattle.rules.specs.Checks.{check, policyWrong, responsesWrong, tableRead}
 use Rattle.rules.specs.Verdicts.{systemOf}
-use Rattle.checker.proofs.SoundTables.{count-few}
 use Rattle.checker.proofs.InHand.{sound-read}
 use Rattle.checker.proofs.Replied.{fails, passes, given, responses-read, decided, accepted-leaves, other-leaves}
 use Rattle.checker.proofs.responses.Statement.{statement}
 use Rattle.checker.proofs.responses.Tie as tie
+use Rattle.checker.proofs.SoundTables.{count-top}
 
 policy-wrong-requires : tie.Need-policy-wrong-requires
 policy-wrong-requires c κs = search needs
@@ -56,7 +56,7 @@ write-worst-requires : tie.Need-write-worst-requires
 write-worst-requires c κs =
     let x = c .before .before .before .before .before .before .before .before .before .before .before .before .before .before .before .before .args in
     let g = c .before .before .before .before .before .before .before .before .before .read-table in
-    let few = count-few (g .result .table) (sound-read (x .text .now) (g .ensures) (c .before .before .before .before .before .before .if3 .left)) in
+    let few = count-top (g .result .table) (sound-read (x .text .now) (g .ensures) (c .before .before .before .before .before .before .if3 .left)) in
     let wide = ltb-false (length (x .numbers .now)) 16 (sym (c .before .before .before .before .before .before .before .before .before .before .before .responses-wrong .ensures) ∙ c .before .before .before .before .before .before .before .before .before .before .if2 .left) in
     omega arith
 

@@ -19,7 +19,10 @@ loop-holds : tie.Need-loop-holds Inv-loop μ-loop
 loop-holds c = search needs
 
 returns : tie.Need-returns Inv-loop μ-loop
-returns c = begins-short (c .before .before .before .args .text .now) (c .before .before .before .args .word .now) _ (omega arith) (c .if1 .taken) ∙ sym (c .before .before .loop .inv .1)
+returns c =
+    let at = c .before .before .loop in
+    let start = c .before .before .before in
+    begins-short (start .args .text .now) (start .args .word .now) _ (omega arith) (c .if1 .taken) ∙ sym (at .inv .1)
 
 shared-slice-read-if2 : tie.Need-shared-slice-read-if2 Inv-loop μ-loop
 shared-slice-read-if2 c = search needs
@@ -28,7 +31,10 @@ shared-slice-read-if2-2 : tie.Need-shared-slice-read-if2-2 Inv-loop μ-loop
 shared-slice-read-if2-2 c = search needs
 
 returns-2 : tie.Need-returns-2 Inv-loop μ-loop
-returns-2 c = begins-off (c .before .before .before .before .before .before .args .text .now) (c .before .before .before .before .before .before .args .word .now) _ (omega arith) (omega arith) (c .if2 .taken) ∙ sym (c .before .before .before .before .before .loop .inv .1)
+returns-2 c =
+    let at = c .before .before .before .before .before .loop in
+    let start = c .before .before .before .before .before .before in
+    begins-off (start .args .text .now) (start .args .word .now) _ (omega arith) (omega arith) (c .if2 .taken) ∙ sym (at .inv .1)
 
 add-i : tie.Need-add-i Inv-loop μ-loop
 add-i c = search needs
@@ -43,7 +49,10 @@ loop-again c =
     (search needs, at .inv .1 ∙ begins-on (s .text .now) (s .word .now) (at .i) (omega arith) (omega arith) (c .if2 .left))
 
 returns-3 : tie.Need-returns-3 Inv-loop μ-loop
-returns-3 c = begins-end (c .before .before .args .text .now) (c .before .before .args .word .now) _ (c .loop-test .left) ∙ sym (c .before .loop .inv .1)
+returns-3 c =
+    let at = c .before .loop in
+    let start = c .before .before in
+    begins-end (start .args .text .now) (start .args .word .now) _ (c .loop-test .left) ∙ sym (at .inv .1)
 
 pub begins-with-spec : {M : Type 1} → statement M
 begins-with-spec =

@@ -16,7 +16,10 @@ begins-with-requires c κs = search needs
 
 returns : tie.Need-returns
 unfolding header
-returns c = (rw (head-off (c .before .before .before .before .args .text .now) (sym (c .before .begins-with .ensures) ∙ not-true _ (c .if1 .taken))), omega arith)
+returns c =
+    let begins-with = c .before .begins-with in
+    let start = c .before .before .before .before in
+    (rw (head-off (start .args .text .now) (sym (begins-with .ensures) ∙ not-true _ (c .if1 .taken))), omega arith)
 
 sub-u : tie.Need-sub-u
 unfolding header
@@ -34,19 +37,33 @@ stop-at-requires c κs = search needs
 
 returns-2 : tie.Need-returns-2
 unfolding header
-returns-2 c = head-line (c .before .before .before .before .before .before .before .args .text .now) (sym (c .before .before .before .before .begins-with .ensures) ∙ not-false _ (c .before .before .before .if1 .left)) _ (c .before .stop-at .ensures) (c .if2 .taken)
+returns-2 c =
+    let stop-at = c .before .stop-at in
+    let if1 = c .before .before .before .if1 in
+    let begins-with = c .before .before .before .before .begins-with in
+    let start = c .before .before .before .before .before .before .before in
+    head-line (start .args .text .now) (sym (begins-with .ensures) ∙ not-false _ (if1 .left)) _ (stop-at .ensures) (c .if2 .taken)
 
 returns-3 : tie.Need-returns-3
 unfolding header
 returns-3 c =
-    let e = sym (c .before .before .before .before .before .begins-with .ensures) ∙ not-false _ (c .before .before .before .before .if1 .left) in
-    (head-end (c .before .before .before .before .before .before .before .before .args .text .now) e _ (c .before .before .stop-at .ensures) (c .if3 .taken), head-long (c .before .before .before .before .before .before .before .before .args .text .now) e)
+    let stop-at = c .before .before .stop-at in
+    let if1 = c .before .before .before .before .if1 in
+    let begins-with = c .before .before .before .before .before .begins-with in
+    let start = c .before .before .before .before .before .before .before .before in
+    let e = sym (begins-with .ensures) ∙ not-false _ (if1 .left) in
+    (head-end (start .args .text .now) e _ (stop-at .ensures) (c .if3 .taken), head-long (start .args .text .now) e)
 
 returns-4 : tie.Need-returns-4
 unfolding header
 returns-4 c =
-    let e = sym (c .before .before .before .before .before .begins-with .ensures) ∙ not-false _ (c .before .before .before .before .if1 .left) in
-    (head-wrong (c .before .before .before .before .before .before .before .before .args .text .now) e _ (c .before .before .stop-at .ensures) (c .before .if2 .left) (c .if3 .left), omega arith)
+    let if2 = c .before .if2 in
+    let stop-at = c .before .before .stop-at in
+    let if1 = c .before .before .before .before .if1 in
+    let begins-with = c .before .before .before .before .before .begins-with in
+    let start = c .before .before .before .before .before .before .before .before in
+    let e = sym (begins-with .ensures) ∙ not-false _ (if1 .left) in
+    (head-wrong (start .args .text .now) e _ (stop-at .ensures) (if2 .left) (c .if3 .left), omega arith)
 
 pub head-spec : {M : Type 1} → statement M
 head-spec =

@@ -25,10 +25,14 @@ digit-requires : tie.Need-digit-requires Inv-loop μ-loop
 digit-requires c κs = search needs
 
 mul-a : tie.Need-mul-a Inv-loop μ-loop
-mul-a c = record { fits = omega (arith, bound-top (c .before .before .before .loop .a) (c .before .before .before .loop .i) (omega arith) (c .before .before .before .loop .inv .1)) }
+mul-a c =
+    let at = c .before .before .before .loop in
+    record { fits = omega (arith, bound-top (at .a) (at .i) (omega arith) (at .inv .1)) }
 
 add-a : tie.Need-add-a Inv-loop μ-loop
-add-a c = record { fits = omega (arith, bound-top (c .before .before .before .loop .a) (c .before .before .before .loop .i) (omega arith) (c .before .before .before .loop .inv .1)) }
+add-a c =
+    let at = c .before .before .before .loop in
+    record { fits = omega (arith, bound-top (at .a) (at .i) (omega arith) (at .inv .1)) }
 
 add-i : tie.Need-add-i Inv-loop μ-loop
 add-i c = search needs
@@ -39,10 +43,14 @@ loop-less c = search needs
 loop-again : tie.Need-loop-again Inv-loop μ-loop
 loop-again c =
     let at = c .before .before .before .loop in
-    (search needs, bound-step (at .a) (c .digit .result) (at .i) (c .digit .ensures .1) (at .inv .1), at .inv .2 ∙ rw (c .digit .ensures .0) (number-cons (c .before .before .before .before .before .args .ds .now) (at .a) (at .i) (omega arith)))
+    let start = c .before .before .before .before .before in
+    (search needs, bound-step (at .a) (c .digit .result) (at .i) (c .digit .ensures .1) (at .inv .1), at .inv .2 ∙ rw (c .digit .ensures .0) (number-cons (start .args .ds .now) (at .a) (at .i) (omega arith)))
 
 returns : tie.Need-returns Inv-loop μ-loop
-returns c = sym (c .before .loop .inv .2 ∙ number-end (c .before .before .before .args .ds .now) (c .before .loop .a) (c .before .loop .i) (omega arith))
+returns c =
+    let at = c .before .loop in
+    let start = c .before .before .before in
+    sym (at .inv .2 ∙ number-end (start .args .ds .now) (at .a) (at .i) (omega arith))
 
 pub number-of-spec : {M : Type 1} → statement M
 number-of-spec =

@@ -17,10 +17,14 @@ add-m : tie.Need-add-m
 add-m c = search needs
 
 sub-u : tie.Need-sub-u
-sub-u c = got-le (c .before .before .before .before .before .args .text .now) _ _ (c .before .before .before .before .before .pre) (c .quote .ensures .0)
+sub-u c =
+    let start = c .before .before .before .before .before in
+    got-le (start .args .text .now) _ _ (start .pre) (c .quote .ensures .0)
 
 part-u-start : tie.Need-part-u-start
-part-u-start c = got-le (c .before .before .before .before .before .args .text .now) _ _ (c .before .before .before .before .before .pre) (c .quote .ensures .0)
+part-u-start c =
+    let start = c .before .before .before .before .before in
+    got-le (start .args .text .now) _ _ (start .pre) (c .quote .ensures .0)
 
 part-u-end : tie.Need-part-u-end
 part-u-end c = search needs
@@ -33,8 +37,11 @@ wrong-requires c κs = search needs
 
 returns : tie.Need-returns
 returns c =
-    let s = c .before .before .before .before .before .before .before .before .before in
-    (c .wrong .ensures ∙ got-open (s .args .text .now) _ _ (s .pre) (c .before .before .before .before .quote .ensures .0) _ (c .before .before .quote2 .ensures .0) (c .before .if2 .taken), rw (c .wrong .ensures) (omega arith))
+    let if2 = c .before .if2 in
+    let quote2 = c .before .before .quote2 in
+    let quote = c .before .before .before .before .quote in
+    let start = c .before .before .before .before .before .before .before .before .before in
+    (c .wrong .ensures ∙ got-open (start .args .text .now) _ _ (start .pre) (quote .ensures .0) _ (quote2 .ensures .0) (if2 .taken), rw (c .wrong .ensures) (omega arith))
 
 sub-v : tie.Need-sub-v
 sub-v c = search needs
@@ -53,9 +60,16 @@ wrong-requires-2 c κs = search needs
 
 returns-2 : tie.Need-returns-2
 returns-2 c =
-    let s = c .before .before .before .before .before .before .before .before .before .before .before .before in
-    let sh = sym (c .before .before .before .before .before .before .before .before .before .shape .ensures) ∙ c .before .before .before .before .before .before .before .before .if1 .taken in (
-      c .wrong2 .ensures ∙ got-wrong (s .args .text .now) _ _ (s .pre) (c .before .before .before .before .before .before .before .quote .ensures .0) sh _ (c .before .before .before .before .before .quote2 .ensures .0) (c .before .before .before .before .if2 .left) _ (c .before .before .stop-at .ensures) (c .before .if3 .taken),
+    let if3 = c .before .if3 in
+    let stop-at = c .before .before .stop-at in
+    let if2 = c .before .before .before .before .if2 in
+    let quote2 = c .before .before .before .before .before .quote2 in
+    let quote = c .before .before .before .before .before .before .before .quote in
+    let if1 = c .before .before .before .before .before .before .before .before .if1 in
+    let shape = c .before .before .before .before .before .before .before .before .before .shape in
+    let start = c .before .before .before .before .before .before .before .before .before .before .before .before in
+    let sh = sym (shape .ensures) ∙ if1 .taken in (
+      c .wrong2 .ensures ∙ got-wrong (start .args .text .now) _ _ (start .pre) (quote .ensures .0) sh _ (quote2 .ensures .0) (if2 .left) _ (stop-at .ensures) (if3 .taken),
       rw (c .wrong2 .ensures) (omega arith),
     )
 
@@ -70,10 +84,17 @@ add-t17 c = search needs
 
 returns-3 : tie.Need-returns-3
 returns-3 c =
-    let s = c .before .before .before .before .before .before .before .before .before .before .before .before in
-    let sh = sym (c .before .before .before .before .before .before .before .before .before .shape .ensures) ∙ c .before .before .before .before .before .before .before .before .if1 .taken in (
-      got-right (s .args .text .now) _ _ (s .pre) (c .before .before .before .before .before .before .before .quote .ensures .0) sh _ (c .before .before .before .before .before .quote2 .ensures .0) (c .before .before .before .before .if2 .left) _ (c .before .before .stop-at .ensures) _ (c .width-of .ensures .0) (c .before .if3 .left),
-      got-used (s .args .text .now) _ _ (s .pre) (c .before .before .before .before .before .before .before .quote .ensures .0) sh _ (c .before .before .before .before .before .quote2 .ensures .0) (c .before .before .before .before .if2 .left) _ (c .before .before .stop-at .ensures) _ (c .width-of .ensures .0),
+    let if3 = c .before .if3 in
+    let stop-at = c .before .before .stop-at in
+    let if2 = c .before .before .before .before .if2 in
+    let quote2 = c .before .before .before .before .before .quote2 in
+    let quote = c .before .before .before .before .before .before .before .quote in
+    let if1 = c .before .before .before .before .before .before .before .before .if1 in
+    let shape = c .before .before .before .before .before .before .before .before .before .shape in
+    let start = c .before .before .before .before .before .before .before .before .before .before .before .before in
+    let sh = sym (shape .ensures) ∙ if1 .taken in (
+      got-right (start .args .text .now) _ _ (start .pre) (quote .ensures .0) sh _ (quote2 .ensures .0) (if2 .left) _ (stop-at .ensures) _ (c .width-of .ensures .0) (if3 .left),
+      got-used (start .args .text .now) _ _ (start .pre) (quote .ensures .0) sh _ (quote2 .ensures .0) (if2 .left) _ (stop-at .ensures) _ (c .width-of .ensures .0),
     )
 
 wrong-requires-3 : tie.Need-wrong-requires-3
@@ -81,8 +102,10 @@ wrong-requires-3 c κs = search needs
 
 returns-4 : tie.Need-returns-4
 returns-4 c =
-    let s = c .before .before .before .before .before in
-    (c .wrong3 .ensures ∙ ending-shape (s .args .text .now) (ap shaped (sym (s .pre)) ∙ sym (c .before .before .shape .ensures) ∙ c .before .if1 .left), rw (c .wrong3 .ensures) (omega arith))
+    let if1 = c .before .if1 in
+    let shape = c .before .before .shape in
+    let start = c .before .before .before .before .before in
+    (c .wrong3 .ensures ∙ ending-shape (start .args .text .now) (ap shaped (sym (start .pre)) ∙ sym (shape .ensures) ∙ if1 .left), rw (c .wrong3 .ensures) (omega arith))
 
 pub reach-spec : {M : Type 1} → statement M
 reach-spec =

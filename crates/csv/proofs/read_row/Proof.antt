@@ -1,12 +1,11 @@
 -- `csv::read_row` reads the line at the front: at each turn the fields read and those to come are the line's fields.
 use mathlib.Core.Bool.{true}
-use lib.ListN.{length-drop}
+use lib.ListN.{length-drop, length}
 use borrow.Author.Tests.{not-true, not-false}
 use mathlib.Core.Path.{_≡_, refl, sym, ap, _∙_}
 use Prim.Native.Nat.{_-_}
 use native.Mathlib.Omega.{arith}
 use borrow.Author.Needs.{needs}
-use lib.ListN.{length}
 use Rattle.rules.specs.Text.{number}
 use Rattle.csv.specs.Reader.{kindAt, fits}
 use Rattle.csv.specs.declared.Ending.{Ending}
@@ -37,16 +36,23 @@ blank-requires c κs = search needs
 
 returns : tie.Need-returns Inv-loop μ-loop
 returns c =
+    let if1 = c .before .if1 in
+    let fits-at = c .before .before .fits-at in
+    let reach = c .before .before .before .reach in
     let at = c .before .before .before .before .before .before .loop in
-    let s = c .before .before .before .before .before .before .before .before .args .text .now in
-    (rw (c .blank .ensures) (filling-bad s (at .v) (at .t .now) (at .at) (at .k) (at .inv) (omega arith) (ap (λ (e : Ending). fits (e .kind) (7 - at .k)) (sym (c .before .before .before .reach .ensures .0)) ∙ sym (c .before .before .fits-at .ensures) ∙ not-true _ (c .before .if1 .taken))), omega arith)
+    let start = c .before .before .before .before .before .before .before .before in
+    let s = start .args .text .now in
+    (rw (c .blank .ensures) (filling-bad s (at .v) (at .t .now) (at .at) (at .k) (at .inv) (omega arith) (ap (λ (e : Ending). fits (e .kind) (7 - at .k)) (sym (reach .ensures .0)) ∙ sym (fits-at .ensures) ∙ not-true _ (if1 .taken))), omega arith)
 
 number-of-requires : tie.Need-number-of-requires Inv-loop μ-loop
 number-of-requires c κs =
+    let fits-at = c .before .fits-at in
+    let reach = c .before .before .reach in
+    let field = c .before .before .before .field in
     let at = c .before .before .before .before .before .loop in
     let good : fits (kindAt (at .t .now)) (7 - at .k) ≡ true =
-    ap (λ (e : Ending). fits (e .kind) (7 - at .k)) (sym (c .before .before .reach .ensures .0)) ∙ sym (c .before .fits-at .ensures) ∙ not-false _ (c .if1 .left) in
-    rw (c .before .before .before .field .ensures) (kind-short (at .t .now) (fits-kind _ (7 - at .k) good))
+    ap (λ (e : Ending). fits (e .kind) (7 - at .k)) (sym (reach .ensures .0)) ∙ sym (fits-at .ensures) ∙ not-false _ (c .if1 .left) in
+    rw (field .ensures) (kind-short (at .t .now) (fits-kind _ (7 - at .k) good))
 
 mul-v : tie.Need-mul-v Inv-loop μ-loop
 mul-v c = search needs
@@ -77,12 +83,18 @@ loop-less c = search needs
 
 loop-again : tie.Need-loop-again Inv-loop μ-loop
 loop-again c =
+    let number-of = c .before .number-of in
+    let if1 = c .before .before .if1 in
+    let fits-at = c .before .before .before .fits-at in
+    let reach = c .before .before .before .before .reach in
+    let field = c .before .before .before .before .before .field in
     let at = c .before .before .before .before .before .before .before .loop in
-    let s = c .before .before .before .before .before .before .before .before .before .args .text .now in
-    let e = c .before .before .before .before .reach .ensures in
+    let start = c .before .before .before .before .before .before .before .before .before in
+    let s = start .args .text .now in
+    let e = reach .ensures in
     let good : fits (kindAt (at .t .now)) (7 - at .k) ≡ true =
-    ap (λ (e : Ending). fits (e .kind) (7 - at .k)) (sym (e .0)) ∙ sym (c .before .before .before .fits-at .ensures) ∙ not-false _ (c .before .before .if1 .left) in
-    filling-turn s (at .v) (at .t .now) (at .at) (at .k) (at .inv) (omega arith) good _ _ (ap (λ (e : Ending). e .used) (e .0)) (c .before .number-of .ensures ∙ ap (number 0) (c .before .before .before .before .before .field .ensures)) (e .1)
+    ap (λ (e : Ending). fits (e .kind) (7 - at .k)) (sym (e .0)) ∙ sym (fits-at .ensures) ∙ not-false _ (if1 .left) in
+    filling-turn s (at .v) (at .t .now) (at .at) (at .k) (at .inv) (omega arith) good _ _ (ap (λ (e : Ending). e .used) (e .0)) (number-of .ensures ∙ ap (number 0) (field .ensures)) (e .1)
 
 array-read-t20 : tie.Need-array-read-t20 Inv-loop μ-loop
 array-read-t20 c = search needs

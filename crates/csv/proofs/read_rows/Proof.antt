@@ -1,10 +1,9 @@
 -- `csv::read_rows` reads the whole text: at each turn the lines read and those to come are the text's lines.
-use Rattle.csv.proofs.Lines.{row-less}
+use Rattle.csv.proofs.Lines.{row-less, Taking, none-refused, taking-start, taking-bad, taking-turn, taking-done}
 use native.Mathlib.Omega.{arith}
 use borrow.Author.Needs.{needs}
 use borrow.Author.Tests.{not-true, not-false}
 use lib.ListN.{length}
-use Rattle.csv.proofs.Lines.{Taking, none-refused, taking-start, taking-bad, taking-turn, taking-done}
 use Rattle.csv.proofs.read_rows.Statement.{statement}
 use Rattle.csv.proofs.read_rows.Tie as tie
 
@@ -21,7 +20,11 @@ empty-requires : tie.Need-empty-requires Inv-loop μ-loop
 empty-requires c κs = search needs
 
 returns : tie.Need-returns Inv-loop μ-loop
-returns c = rw (c .before .empty .ensures) (none-refused (c .before .before .before .before .args .text .now) _ (c .before .before .head .ensures .0) (c .if1 .taken))
+returns c =
+    let empty = c .before .empty in
+    let head = c .before .before .head in
+    let start = c .before .before .before .before in
+    rw (empty .ensures) (none-refused (start .args .text .now) _ (head .ensures .0) (c .if1 .taken))
 
 sub-t : tie.Need-sub-t Inv-loop μ-loop
 sub-t c = search needs
@@ -33,7 +36,12 @@ part-t-end : tie.Need-part-t-end Inv-loop μ-loop
 part-t-end c = search needs
 
 loop-holds : tie.Need-loop-holds Inv-loop μ-loop
-loop-holds c = rw (c .before .before .empty .ensures) (taking-start (c .before .before .before .before .before .args .text .now) _ (c .before .before .before .head .ensures .0) (c .before .if1 .left))
+loop-holds c =
+    let if1 = c .before .if1 in
+    let empty = c .before .before .empty in
+    let head = c .before .before .before .head in
+    let start = c .before .before .before .before .before in
+    rw (empty .ensures) (taking-start (start .args .text .now) _ (head .ensures .0) (if1 .left))
 
 read-row-requires : tie.Need-read-row-requires Inv-loop μ-loop
 read-row-requires c κs = search needs
@@ -43,8 +51,13 @@ empty-requires-2 c κs = search needs
 
 returns-2 : tie.Need-returns-2 Inv-loop μ-loop
 returns-2 c =
+    let if2 = c .before .if2 in
+    let read-row = c .before .before .before .read-row in
     let at = c .before .before .before .before .before .loop in
-    rw (c .empty2 .ensures) (taking-bad (c .before .before .before .before .before .before .before .before .before .before .before .args .text .now) _ (c .before .before .before .before .before .before .before .before .before .head .ensures .0) (c .before .before .before .before .before .before .before .if1 .left) (at .kept) (at .t .now) (at .n) (at .inv) (omega arith) _ (c .before .before .before .read-row .ensures .0) (not-true _ (c .before .if2 .taken)))
+    let if1 = c .before .before .before .before .before .before .before .if1 in
+    let head = c .before .before .before .before .before .before .before .before .before .head in
+    let start = c .before .before .before .before .before .before .before .before .before .before .before in
+    rw (c .empty2 .ensures) (taking-bad (start .args .text .now) _ (head .ensures .0) (if1 .left) (at .kept) (at .t .now) (at .n) (at .inv) (omega arith) _ (read-row .ensures .0) (not-true _ (if2 .taken)))
 
 keep-requires : tie.Need-keep-requires Inv-loop μ-loop
 keep-requires c κs = search needs
@@ -62,17 +75,30 @@ add-n : tie.Need-add-n Inv-loop μ-loop
 add-n c = search needs
 
 loop-less : tie.Need-loop-less Inv-loop μ-loop
-loop-less c = row-less (c .before .before .before .before .before .before .before .loop .t .now) _ (c .before .before .before .before .before .read-row .ensures .0) (not-false _ (c .before .before .before .if2 .left)) (omega arith)
+loop-less c =
+    let if2 = c .before .before .before .if2 in
+    let read-row = c .before .before .before .before .before .read-row in
+    let at = c .before .before .before .before .before .before .before .loop in
+    row-less (at .t .now) _ (read-row .ensures .0) (not-false _ (if2 .left)) (omega arith)
 
 loop-again : tie.Need-loop-again Inv-loop μ-loop
 loop-again c =
+    let keep = c .before .keep in
+    let if2 = c .before .before .before .if2 in
+    let read-row = c .before .before .before .before .before .read-row in
     let at = c .before .before .before .before .before .before .before .loop in
-    rw (c .before .keep .ensures) (taking-turn (c .before .before .before .before .before .before .before .before .before .before .before .before .before .args .text .now) _ (c .before .before .before .before .before .before .before .before .before .before .before .head .ensures .0) (c .before .before .before .before .before .before .before .before .before .if1 .left) (at .kept) (at .t .now) (at .n) (at .inv) (omega arith) _ (c .before .before .before .before .before .read-row .ensures .0) (not-false _ (c .before .before .before .if2 .left)))
+    let if1 = c .before .before .before .before .before .before .before .before .before .if1 in
+    let head = c .before .before .before .before .before .before .before .before .before .before .before .head in
+    let start = c .before .before .before .before .before .before .before .before .before .before .before .before .before in
+    rw (keep .ensures) (taking-turn (start .args .text .now) _ (head .ensures .0) (if1 .left) (at .kept) (at .t .now) (at .n) (at .inv) (omega arith) _ (read-row .ensures .0) (not-false _ (if2 .left)))
 
 returns-3 : tie.Need-returns-3 Inv-loop μ-loop
 returns-3 c =
     let at = c .before .loop in
-    taking-done (c .before .before .before .before .before .before .before .args .text .now) _ (c .before .before .before .before .before .head .ensures .0) (c .before .before .before .if1 .left) (at .kept) (at .t .now) (at .n) (at .inv) (omega arith)
+    let if1 = c .before .before .before .if1 in
+    let head = c .before .before .before .before .before .head in
+    let start = c .before .before .before .before .before .before .before in
+    taking-done (start .args .text .now) _ (head .ensures .0) (if1 .left) (at .kept) (at .t .now) (at .n) (at .inv) (omega arith)
 
 pub read-rows-spec : {M : Type 1} → statement M
 read-rows-spec =

@@ -24,7 +24,11 @@ returns : tie.Need-returns Inv-loop μ-loop
 returns c = run-low _ _ (c .before .before .loop-test .taken) (c .before .before .before .loop .inv .1) (c .if1 .taken)
 
 returns-2 : tie.Need-returns-2 Inv-loop μ-loop
-returns-2 c = run-high _ _ (c .before .before .before .loop-test .taken) (c .before .before .before .before .loop .inv .1) (c .before .if1 .left) (c .if2 .taken)
+returns-2 c =
+    let if1 = c .before .if1 in
+    let loop-test = c .before .before .before .loop-test in
+    let at = c .before .before .before .before .loop in
+    run-high _ _ (loop-test .taken) (at .inv .1) (if1 .left) (c .if2 .taken)
 
 add-i : tie.Need-add-i Inv-loop μ-loop
 add-i c = search needs
@@ -33,7 +37,11 @@ loop-less : tie.Need-loop-less Inv-loop μ-loop
 loop-less c = search needs
 
 loop-again : tie.Need-loop-again Inv-loop μ-loop
-loop-again c = (search needs, run-more _ _ (c .before .before .before .loop-test .taken) (c .before .before .before .before .loop .inv .1) (c .before .if1 .left) (c .if2 .left))
+loop-again c =
+    let if1 = c .before .if1 in
+    let loop-test = c .before .before .before .loop-test in
+    let at = c .before .before .before .before .loop in
+    (search needs, run-more _ _ (loop-test .taken) (at .inv .1) (if1 .left) (c .if2 .left))
 
 returns-3 : tie.Need-returns-3 Inv-loop μ-loop
 returns-3 c = run-end _ _ (c .loop-test .left) (c .before .loop .inv .1) (c .before .loop .inv .0)

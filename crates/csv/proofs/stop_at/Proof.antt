@@ -20,13 +20,27 @@ shared-slice-read-b : tie.Need-shared-slice-read-b
 shared-slice-read-b c = search needs
 
 returns-4 : tie.Need-returns-4
-returns-4 c = stop-line (c .before .before .before .before .before .before .before .args .text .now) (c .before .before .before .before .before .before .if1 .left) (c .before .before .before .before .if2 .left) (c .before .if4 .taken) (c .if5 .taken)
+returns-4 c =
+    let if4 = c .before .if4 in
+    let if2 = c .before .before .before .before .if2 in
+    let if1 = c .before .before .before .before .before .before .if1 in
+    let start = c .before .before .before .before .before .before .before in
+    stop-line (start .args .text .now) (if1 .left) (if2 .left) (if4 .taken) (c .if5 .taken)
 
 returns-5 : tie.Need-returns-5
-returns-5 c = stop-lf (c .before .before .before .before .before .before .before .args .text .now) (c .before .before .before .before .before .before .if1 .left) (c .before .before .before .before .if2 .left) (c .before .if4 .taken) (c .if5 .left)
+returns-5 c =
+    let if4 = c .before .if4 in
+    let if2 = c .before .before .before .before .if2 in
+    let if1 = c .before .before .before .before .before .before .if1 in
+    let start = c .before .before .before .before .before .before .before in
+    stop-lf (start .args .text .now) (if1 .left) (if2 .left) (if4 .taken) (c .if5 .left)
 
 returns-6 : tie.Need-returns-6
-returns-6 c = stop-other (c .before .before .before .before .before .before .args .text .now) (c .before .before .before .before .before .if1 .left) (c .before .before .before .if2 .left) (c .if4 .left)
+returns-6 c =
+    let if2 = c .before .before .before .if2 in
+    let if1 = c .before .before .before .before .before .if1 in
+    let start = c .before .before .before .before .before .before in
+    stop-other (start .args .text .now) (if1 .left) (if2 .left) (c .if4 .left)
 
 pub stop-at-spec : {M : Type 1} → statement M
 stop-at-spec =

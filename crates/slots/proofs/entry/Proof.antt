@@ -1,17 +1,9 @@
 -- Rests on: within a list, what is stated beyond its end plays no part; past the end, it is the answer.
-use mathlib.Core.Path.{_≡_, refl}
-use mathlib.Core.List.{List, [], _∷_}
-use Prim.Native.Nat.{ℕ, zero, suc, _<_}
-use native.Mathlib.Omega.{arith}
-use lib.ListN.{length, getD, List·getD-eq-default}
+use lib.ListN.{List·getD-eq-default}
 use borrow.Author.Needs.{needs}
+use Rattle.basics.specs.Lists.{any-default}
 use Rattle.slots.proofs.entry.Statement.{statement}
 use Rattle.slots.proofs.entry.Tie as tie
-
-within : (l : List ℕ) (i d e : ℕ) → i < length l → getD l i d ≡ getD l i e
-within [] i d e h = absurd (omega arith)
-within (x ∷ l) zero d e h = refl
-within (x ∷ l) (suc i) d e h = within l i d e (omega arith)
 
 mul-result : tie.Need-mul-result
 mul-result c = search needs
@@ -22,7 +14,7 @@ shared-slice-read-result c = search needs
 returns : tie.Need-returns
 returns c =
     let a = c .before .before .args in
-    within (a .list .now) (a .i) 0 (a .stated) (c .before .if1 .taken)
+    any-default (a .list .now) (a .i) 0 (a .stated) (c .before .if1 .taken)
 
 returns-2 : tie.Need-returns-2
 returns-2 c = rw (List·getD-eq-default (c .before .args .list .now) (c .before .args .stated) (c .if1 .left))

@@ -4,10 +4,10 @@ use mathlib.Core.List.{[]}
 use Prim.Native.Nat.{_≤_, _-_}
 use native.Mathlib.Omega.{arith}
 use borrow.Author.Needs.{needs}
-use Rattle.checker.proofs.SoundTables.{count-few, hyper-some}
 use Rattle.checker.proofs.Marks.{Marked, marked-start, marked-turn, accepted-end, missed-end, first-end, last-end}
 use Rattle.checker.proofs.decide.decide.Statement.{statement}
 use Rattle.checker.proofs.decide.decide.Tie as tie
+use Rattle.checker.proofs.SoundTables.{count-top, hyper-some}
 
 abbrev Inv-loop : tie.InvT-loop
 Inv-loop t policy allowance first h s₀ from₀ s from = Marked policy t s from × (from ≤ allowance)
@@ -32,7 +32,7 @@ ended-requires c κs =
     let x = c .before .before .before .before .before in
     let a = x .args in
     let q = c .leg in
-    omega (arith, q .ensures .task, count-few (a .t) (x .pre), q .ensures .most)
+    omega (arith, q .ensures .task, count-top (a .t) (x .pre), q .ensures .most)
 
 returns : tie.Need-returns Inv-loop μ-loop
 returns c =
@@ -49,7 +49,7 @@ ended-requires-2 c κs =
     let x = c .before .before .before .before .before .before .before in
     let a = x .args in
     let q = c .before .before .leg2 in
-    omega (arith, q .ensures .task, count-few (a .t) (x .pre), q .ensures .most)
+    omega (arith, q .ensures .task, count-top (a .t) (x .pre), q .ensures .most)
 
 returns-2 : tie.Need-returns-2 Inv-loop μ-loop
 returns-2 c =
@@ -81,7 +81,7 @@ ended-requires-3 c κs =
     let a = x .args in
     let q = c .before .before .leg3 in
     let at = c .before .before .before .before .loop in
-    omega (arith, q .ensures .task, count-few (a .t) (x .pre), q .ensures .most, at .inv .1, c .before .before .before .loop-test .taken)
+    omega (arith, q .ensures .task, count-top (a .t) (x .pre), q .ensures .most, at .inv .1, c .before .before .before .loop-test .taken)
 
 returns-3 : tie.Need-returns-3 Inv-loop μ-loop
 returns-3 c =
@@ -99,7 +99,7 @@ add-from c =
     omega (arith, at .inv .1, c .before .before .before .before .loop-test .taken)
 
 same-requires : tie.Need-same-requires Inv-loop μ-loop
-same-requires c κs = count-few (c .before .before .before .before .before .before .before .before .before .before .before .before .before .before .args .t) (c .before .before .before .before .before .before .before .before .before .before .before .before .before .before .pre)
+same-requires c κs = count-top (c .before .before .before .before .before .before .before .before .before .before .before .before .before .before .args .t) (c .before .before .before .before .before .before .before .before .before .before .before .before .before .before .pre)
 
 returns-4 : tie.Need-returns-4 Inv-loop μ-loop
 returns-4 c =
@@ -140,7 +140,7 @@ ended-requires-4 c κs =
     let a = x .args in
     let q = c .leg4 in
     let at = c .before .before .loop in
-    omega (arith, q .ensures .task, count-few (a .t) (x .pre), q .ensures .most, at .inv .1)
+    omega (arith, q .ensures .task, count-top (a .t) (x .pre), q .ensures .most, at .inv .1)
 
 returns-5 : tie.Need-returns-5 Inv-loop μ-loop
 returns-5 c =

@@ -5,7 +5,7 @@ use native.Mathlib.Nat.{add-zero}
 use borrow.Author.Needs.{needs}
 use lib.ListN.{length}
 use Rattle.checker.specs.Machine.{Sound, At, Went, PaintedRun}
-use Rattle.checker.proofs.Jobs.{count-top}
+use Rattle.checker.proofs.SoundTables.{count-top}
 use Rattle.checker.proofs.Legs.{best-top, went-missed, spent, at-next, painted-next, went-through}
 use Rattle.checker.proofs.Painted.{painted-none}
 use Rattle.checker.proofs.Pass.{Passing, passing-start, passing-turn}

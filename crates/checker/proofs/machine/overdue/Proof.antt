@@ -9,7 +9,8 @@ use Rattle.rules.specs.Table.{noRow}
 use Rattle.rules.specs.Slots.{pick}
 use Rattle.slots.specs.Jobs.{lateOf}
 use Rattle.checker.specs.Machine.{jobOf}
-use Rattle.checker.proofs.Jobs.{count-top, pick-top, missed-turn, missed-is}
+use Rattle.checker.proofs.SoundTables.{count-top}
+use Rattle.checker.proofs.Jobs.{pick-top, missed-turn, missed-is}
 use Rattle.checker.proofs.machine.overdue.Statement.{statement}
 use Rattle.checker.proofs.machine.overdue.Tie as tie
 
