@@ -22,17 +22,16 @@ use Rattle.rules.specs.Table.{omax, hyper}
 use Rattle.rules.specs.Checks.{better, smallest, fault, place, firstFault, checked, rowsChecked, tableRead, check, within, policyWrong, slotsWrong, verdictRefusal, slotsRefusal}
 use Rattle.rules.specs.Policies.{policy, row}
 use Rattle.rules.specs.Slots.{Choice, complete, run, stated}
-use Rattle.rules.specs.Decided.{missedAt}
-use Rattle.rules.specs.Verdicts.{tasksOf, systemOf, missedId, Decides, Replies, VerdictIs, response, Worst}
+use Rattle.rules.specs.Decided.{missedAt, SlotsNeeded}
+use Rattle.rules.specs.Verdicts.{tasksOf, systemOf, missedId, plain, Decides, Replies, VerdictIs, response, Worst}
 use Rattle.rules.specs.Schedules.{Fills, Writes}
 use Rattle.basics.specs.Cases.{test, eq-case, clash, both-true}
 use Rattle.basics.specs.Search.{lowest-top}
 use Rattle.reordering.specs.All.{All}
-use Rattle.reordering.specs.Passed.{Fine, passed, passed-canonical}
+use Rattle.reordering.specs.Passed.{Fine, Passed, passed, passed-canonical}
 use Rattle.theory.specs.Policies.{policy-repeats}
-use Rattle.theory.specs.Rows.{Valid, at-most}
-use Rattle.checker.proofs.InHand.{sound, live-tasks}
-use Rattle.checker.proofs.SoundTables.{valid}
+use Rattle.theory.specs.Rows.{at-most}
+use Rattle.theory.specs.Texts.{valid-rows}
 use Rattle.boundary.specs.Packed.{SmallRefusal, Small, SmallSchedule}
 use Rattle.boundary.specs.Crossing.{bytesRefusal}
 
@@ -175,14 +174,14 @@ row-low (w ∷ ws) h zero = (h .0 .id-high, h .0 .period-high)
 row-low (w ∷ ws) h (suc i) = row-low ws (h .1) i
 
 module _ (s : List ℕ) (fine : tableRead s .refusal .number ≡ 0) where
-  tasks-valid : Valid (tasksOf s)
-  tasks-valid = rw (live-tasks s fine) at (valid (tableRead s .table) (sound s fine))
+  tasks-pass : Passed (tasksOf s)
+  tasks-pass = passed-canonical (rowsOf s) (passed s fine .rows)
 
   pub tasks-few : length (tasksOf s) ≤ 16
-  tasks-few = tasks-valid .passes .count
+  tasks-few = tasks-pass .few
 
   task-low : (i : ℕ) → (row (tasksOf s) i .id ≤ 255) × (row (tasksOf s) i .period ≤ 10000)
-  task-low = row-low (tasksOf s) (passed-canonical (rowsOf s) (passed s fine .rows) .fine)
+  task-low = row-low (tasksOf s) (tasks-pass .fine)
 
   missed-low : (p : ℕ) (c : ℕ → Choice) (t : ℕ) → missedId (systemOf p s) c t ≤ 255
   missed-low p c t = task-low (pred (missedAt (systemOf p s) c t)) .0
@@ -193,9 +192,12 @@ module _ (s : List ℕ) (fine : tableRead s .refusal .number ≡ 0) where
       let y = systemOf p s in
       omega (arith, w .takes, task-low i .1, lowest-top (λ e. complete (run y (stated y) (w .at + suc e)) i) (y .row i .period))
 
+  needed-low : (p n : ℕ) → SlotsNeeded (systemOf p s) (omax (tasksOf s)) (hyper (tasksOf s)) plain n → n ≤ 2 ^ 48
+  needed-low p = at-most (policy p) (policy-repeats p) (tasksOf s) (valid-rows (tasksOf s) tasks-pass)
+
   decides-small : (p a : ℕ) (v : Verdict) → Decides (systemOf p s) (omax (tasksOf s)) (hyper (tasksOf s)) a v → Small v
-  decides-small p a (verdict.Accepted n) d = at-most (policy p) (policy-repeats p) (tasksOf s) tasks-valid n (inr (d .0))
-  decides-small p a (verdict.Missed t i) d = (at-most (policy p) (policy-repeats p) (tasksOf s) tasks-valid t (inl (d .0)), rw (d .2) (missed-low p (stated (systemOf p s)) t))
+  decides-small p a (verdict.Accepted n) d = needed-low p n (inr (d .0))
+  decides-small p a (verdict.Missed t i) d = (needed-low p t (inl (d .0)), rw (d .2) (missed-low p (stated (systemOf p s)) t))
   decides-small p a verdict.Undecided d = tt
   decides-small p a (verdict.Refused n q) d = absurd d
 

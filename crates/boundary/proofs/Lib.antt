@@ -2,3 +2,5 @@
 pub mod Numbers
 pub mod Bounds
 pub mod Held
+pub mod Unpacked
+pub mod Once
