@@ -1,23 +1,21 @@
 -- How large a reply is: every reply that the rules give is small, so that it crosses as one number. Times are at most 2^48, the
 -- allowance that always decides, or the slots of a lent buffer; ids are at most 255 where the table passes. The place of a refusal
 -- is a line of a text of at most 4,096 bytes, or an id of at most five digits. The exported functions use it, and Unpacked.
-use mathlib.Core.Path.{_≡_, refl, ap}
+use mathlib.Core.Path.{_≡_, refl}
 use mathlib.Core.Logic.{inl, inr}
-use mathlib.Core.Bool.{Bool, true, false, cond}
+use mathlib.Core.Bool.{Bool, true, false}
 use mathlib.Core.List.{List, [], _∷_, map}
 use Prim.Native.Nat.{ℕ, zero, suc, _+_, _*_, _-_, _/_, _%_, _^_, _≤_, _<_, pred}
 use native.Mathlib.Nat.{add-zero, zero-add, pow-suc, pow-le-pow-right}
 use native.Mathlib.Omega.{arith}
+use borrow.Author.Tests.{eqb-true, leb-true, ltb-false}
 use lib.Dec.{eqb, leb, ltb}
 use lib.ListN.{length, drop, getD}
-use borrow.Author.Tests.{eqb-true, leb-true, ltb-true, ltb-false}
 use Rattle.rules.specs.declared.Row.{Row}
 use Rattle.rules.specs.declared.Refusal.{Refusal}
 use Rattle.rules.specs.Text.{lines, header, same, fields, isDigit, digits, inner, good, closed, nil, behind, shaped, all, wellFormed, firstBad, illFormed, badLine, number, value, rowOf, rowsOf, breaks, opened, push}
 use Rattle.rules.specs.declared.Verdict.{Verdict}
-use Rattle.rules.specs.declared.Verdict.the-variants as verdict
 use Rattle.rules.specs.declared.ScheduleReply.{ScheduleReply}
-use Rattle.rules.specs.declared.ScheduleReply.the-variants as schedule
 use Rattle.rules.specs.Table.{omax, hyper}
 use Rattle.rules.specs.Checks.{better, smallest, fault, place, firstFault, checked, rowsChecked, tableRead, check, within, policyWrong, slotsWrong, verdictRefusal, slotsRefusal}
 use Rattle.rules.specs.Policies.{policy, row}
@@ -25,6 +23,8 @@ use Rattle.rules.specs.Slots.{Choice, complete, run, stated}
 use Rattle.rules.specs.Decided.{missedAt, SlotsNeeded}
 use Rattle.rules.specs.Verdicts.{tasksOf, systemOf, missedId, plain, Decides, Replies, VerdictIs, response, Worst}
 use Rattle.rules.specs.Schedules.{Fills, Writes}
+use Rattle.rules.specs.declared.Verdict.the-variants as verdict
+use Rattle.rules.specs.declared.ScheduleReply.the-variants as schedule
 use Rattle.basics.specs.Cases.{test, eq-case, clash, both-true}
 use Rattle.basics.specs.Search.{lowest-top}
 use Rattle.reordering.specs.All.{All}

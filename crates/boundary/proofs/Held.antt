@@ -1,20 +1,19 @@
 -- From the sixteen numbers that the checker is lent to the bytes that the host lends: what the checker says of the numbers holds of
 -- the bytes that they are written over. `otter_responses` uses it.
-use mathlib.Core.Path.{_≡_, refl, sym, ap, _∙_}
+use mathlib.Core.Path.{_≡_, refl, _∙_}
 use mathlib.Core.List.{List, _++_}
-use Prim.Native.Nat.{ℕ, _*_, _≤_, _<_}
+use Prim.Native.Nat.{ℕ, _≤_, _<_}
 use native.Mathlib.Omega.{arith}
+use borrow.Author.Tests.{le-ltb}
 use lib.Dec.{ltb}
 use lib.ListN.{length, getD, drop, length-append, length-drop}
-use borrow.Author.Tests.{le-ltb}
 use Rattle.rules.specs.declared.Verdict.{Verdict}
 use Rattle.rules.specs.declared.Verdict.the-variants.{Accepted, Missed, Undecided, Refused}
 use Rattle.rules.specs.Checks.{check, policyWrong, tableRead, responsesRefusal}
 use Rattle.rules.specs.Verdicts.{systemOf, Replies, Hold, Leaves, ResponsesAre}
 use Rattle.basics.specs.Cases.{eq-case}
-use Rattle.boundary.specs.Packed.{packed}
 use Rattle.boundary.specs.Bytes.{numbersFrom, bytesOf}
-use Rattle.boundary.specs.Crossing.{bytesRefusal, HoldBytes, LeavesBytes, ResponsesCross}
+use Rattle.boundary.specs.Crossing.{bytesRefusal, HoldBytes, LeavesBytes}
 use Rattle.boundary.proofs.Numbers.{same-bytes, bytes-length, numbers-length, bytes-at, bytes-drop}
 use Rattle.boundary.proofs.Bounds.{check-none, tasks-few, worst-low}
 
@@ -55,6 +54,7 @@ module _ (p a : ℕ) (text before : List ℕ) (bytes : (i : ℕ) → getD before
       where
         unchanged : after ≡ numbersFrom 16 0 before → bytesOf after ++ drop 64 before ≡ before
         unchanged e = rw e stays
+
         go : (w : Verdict) → Leaves (systemOf p text) w (numbersFrom 16 0 before) after → ((n : ℕ) → w ≡ Accepted n → tableRead text .refusal .number ≡ 0)
             → LeavesBytes (systemOf p text) w before (bytesOf after ++ drop 64 before)
         go (Accepted n) l fine = hold (fine n refl) l

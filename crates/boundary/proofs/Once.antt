@@ -1,9 +1,9 @@
 -- Two replies to one call are equal, with the bytes that they leave: a contract of the boundary says all.
 use mathlib.Core.Path.{_≡_, refl, sym, ap, _∙_}
-use mathlib.Core.List.{List, _++_}
+use mathlib.Core.List.{List}
 use Prim.Native.Nat.{ℕ, zero, suc, _+_, _*_, _≤_}
 use native.Mathlib.Omega.{arith}
-use lib.ListN.{length, take, drop, take-append-drop}
+use lib.ListN.{length, take, take-append-drop}
 use lib.Seq.{take-add}
 use Rattle.rules.specs.declared.Verdict.{Verdict}
 use Rattle.rules.specs.declared.Verdict.the-variants.{Accepted, Missed, Undecided, Refused}
@@ -16,7 +16,6 @@ use Rattle.theory.specs.Replies.{verdict-one}
 use Rattle.theory.specs.Responses.{worst-one}
 use Rattle.theory.specs.ScheduleReplies.{writes-one}
 use Rattle.boundary.specs.Packed.{packed, packedSchedule}
-use Rattle.boundary.specs.Bytes.{fourOf}
 use Rattle.boundary.specs.Crossing.{bytesRefusal, HoldBytes, LeavesBytes, VerdictCrosses, ResponsesCross, ScheduleCrosses, AsRunCrosses}
 
 pub verdict-once : {p a : ℕ} {text : List ℕ} {r s : ℕ} → VerdictCrosses p a text r → VerdictCrosses p a text s → r ≡ s

@@ -1,21 +1,21 @@
 -- Nothing is lost: of every reply that the rules give, kind, number and place are had back from the one number that crosses, by the
--- divisions of host/ottersprawl.h. Two numbers that meet a contract are equal, and so are the bytes that they leave.
-use mathlib.Core.Path.{_≡_, refl, sym, ap, _∙_}
-use mathlib.Core.List.{List, _++_}
-use Prim.Native.Nat.{ℕ, _+_, _*_, _/_, _%_, _≤_, _<_}
+-- divisions of host/ottersprawl.h.
+use mathlib.Core.Path.{_≡_, refl}
+use mathlib.Core.List.{List}
+use Prim.Native.Nat.{ℕ, _+_, _*_, _/_, _%_, _≤_}
 use native.Mathlib.Nat.{div-eq-of-lt-le}
 use native.Mathlib.Omega.{arith}
+use lib.ListN.{length}
 use Rattle.rules.specs.declared.Verdict.{Verdict}
-use Rattle.rules.specs.declared.Verdict.the-variants as verdict
 use Rattle.rules.specs.declared.ScheduleReply.{ScheduleReply}
-use Rattle.rules.specs.declared.ScheduleReply.the-variants as schedule
 use Rattle.rules.specs.Slots.{stated}
 use Rattle.rules.specs.AsRun.{listed}
 use Rattle.rules.specs.Verdicts.{systemOf}
+use Rattle.rules.specs.declared.Verdict.the-variants as verdict
+use Rattle.rules.specs.declared.ScheduleReply.the-variants as schedule
 use Rattle.boundary.specs.Packed.{packedMiss, packedRefusal, packed, packedSchedule, Parts, Unpacked, UnpackedSchedule, Small, SmallSchedule}
 use Rattle.boundary.specs.Crossing.{VerdictCrosses, ResponsesCross, ScheduleCrosses, AsRunCrosses}
 use Rattle.boundary.proofs.Bounds.{verdict-small, bytes-small, writes-small}
-use lib.ListN.{length}
 
 -- THE DIVISIONS
 parts-miss : (r t i : ℕ) → r ≡ packedMiss t i → i ≤ 255 → Parts 2 t i r

@@ -4,8 +4,8 @@ use mathlib.Core.Bool.{cond}
 use Prim.Native.Nat.{ℕ, _+_, _*_, _/_, _%_, _^_, _≤_}
 use lib.Dec.{eqb}
 use Rattle.rules.specs.declared.Verdict.{Verdict}
-use Rattle.rules.specs.declared.Verdict.the-variants as verdict
 use Rattle.rules.specs.declared.ScheduleReply.{ScheduleReply}
+use Rattle.rules.specs.declared.Verdict.the-variants as verdict
 use Rattle.rules.specs.declared.ScheduleReply.the-variants as schedule
 
 -- THE NUMBER: the kind, 1 accepted, 2 missed, 3 undecided, 4 refused, 5 filled, is below 8; ids are below 256 and numbers of

@@ -1,17 +1,19 @@
-// The C boundary: the four replies of the checker as thin extern "C" functions over numbers and slices. Whatever crosses, each
-// call has a reply; none has a `requires`. host/ottersprawl.h declares them for C.
+// The C boundary: the four replies of the checker as thin extern "C" functions over numbers and slices. Any arguments have a reply:
+// no function here requires anything. host/ottersprawl.h declares them for C.
 ghost use Rattle.boundary.specs.Crossing.{VerdictCrosses, ResponsesCross, ScheduleCrosses, AsRunCrosses};
-use rules::Table;
-use rules::Verdict;
 
 mod little;
 mod pack;
 
-// Check 2, fewer than 16 numbers of four bytes.
-const RESPONSES_WRONG: u32 = 2;
-
+// The numbers of checks 1 and 2.
 const POLICY_WRONG: u32 = 1;
 
+const BUFFER_WRONG: u32 = 2;
+
+// The bytes that responses are lent, four a number.
+const RESPONSES_LEN: usize = 64;
+
+// Is the table on time under this policy? It spends an allowance of slots.
 #[no_mangle]
 pub extern "C" fn otter_verdict(policy: u32, allowance: u64, text: &[u8]) -> u64
     ensures { λ r. ⌜ VerdictCrosses policy allowance (now (text .entry)) r ⌝ }
@@ -19,16 +21,22 @@ pub extern "C" fn otter_verdict(policy: u32, allowance: u64, text: &[u8]) -> u64
     pack::verdict(checker::verdict(policy, allowance, text))
 }
 
-// The lent bytes are read as sixteen numbers, lent to the checker as such, and written back.
+// The verdict; if it is accepted, the lent bytes hold the worst responses in ascending id, four bytes each. They are read as sixteen
+// numbers, which are lent to the checker and written back, so that bytes of rows that are not there stay.
 #[no_mangle]
-pub extern "C" fn otter_responses(policy: u32, allowance: u64, text: &[u8], responses: &mut [u8]) -> u64
+pub extern "C" fn otter_responses(
+    policy: u32,
+    allowance: u64,
+    text: &[u8],
+    responses: &mut [u8],
+) -> u64
     ensures { λ r. ⌜ ResponsesCross policy allowance (now (text .entry)) (now (responses .entry)) (now (responses .exit)) r ⌝ }
 {
     if table::policy_wrong(policy) {
         return pack::refused(POLICY_WRONG);
     }
-    if responses.len() < 64 {
-        return pack::refused(RESPONSES_WRONG);
+    if responses.len() < RESPONSES_LEN {
+        return pack::refused(BUFFER_WRONG);
     }
     let mut numbers = [0u32; 16];
     little::read(responses, &mut numbers);
@@ -37,6 +45,7 @@ pub extern "C" fn otter_responses(policy: u32, allowance: u64, text: &[u8], resp
     pack::verdict(v)
 }
 
+// Two bytes a slot, id and kind, of the schedule.
 #[no_mangle]
 pub extern "C" fn otter_schedule(policy: u32, text: &[u8], slots: &mut [u8]) -> u64
     ensures { λ r. ⌜ ScheduleCrosses policy (now (text .entry)) (now (slots .entry)) (now (slots .exit)) r ⌝ }
@@ -44,6 +53,7 @@ pub extern "C" fn otter_schedule(policy: u32, text: &[u8], slots: &mut [u8]) -> 
     pack::schedule(checker::schedule(policy, text, slots))
 }
 
+// Two bytes a slot, id and kind, of the run with these requests and loading lengths.
 #[no_mangle]
 pub extern "C" fn otter_as_run(
     policy: u32,

@@ -1,14 +1,13 @@
 -- The library's decimal digits are as few as hold the number. `put_number` uses it.
 use mathlib.Core.Path.{_≡_, sym, ap, _∙_}
-use mathlib.Core.List.{List}
 use Prim.Native.Nat.{ℕ, suc, _-_, _^_, _≤_, _<_}
 use native.Mathlib.Nat.{pow-le-pow-right}
 use native.Mathlib.Omega.{arith}
-use lib.Dec.{ltb}
 use borrow.Author.Tests.{lt-ltb, le-ltb}
-use Rattle.io.specs.Digits.{digits, Fewest}
+use lib.Dec.{ltb}
 use Rattle.basics.specs.Cases.{le-case}
 use Rattle.basics.specs.Search.{lowest-is}
+use Rattle.io.specs.Digits.{digits, Fewest}
 use Rattle.report.specs.Lines.{places, decimal}
 
 -- a 64-bit number has at most twenty

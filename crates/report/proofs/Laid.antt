@@ -1,11 +1,11 @@
 -- Words laid into lent bytes: a turn of the loop that lays one, and two words one after the other are one word.
 use mathlib.Core.Path.{_≡_, refl, sym, ap, _∙_}
-use mathlib.Core.List.{List, [], _∷_, _++_, append-assoc}
+use mathlib.Core.List.{List, _++_, append-assoc}
 use Prim.Native.Nat.{ℕ, suc, _+_, _≤_, _<_}
 use native.Mathlib.Numerals.{add-one}
 use native.Mathlib.Omega.{arith}
 use lib.ListN.{length, getD, set, take, drop, length-append}
-use lib.Seq.{paste, paste-zero, paste-suc, take-paste, drop-paste, length-paste, take-length, drop-drop, length-take-le}
+use lib.Seq.{paste, paste-suc, take-paste, drop-paste, length-paste, take-length, drop-drop, length-take-le}
 use Rattle.io.specs.Counts.{Counts}
 use Rattle.report.specs.Reports.{Puts}
 

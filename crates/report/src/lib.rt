@@ -10,10 +10,9 @@ use rules::Verdict;
 // The slots that each verdict may spend.
 const ALLOWANCE: u64 = 10_000_000;
 
-// The most bytes of a line: three numbers of at most twenty digits, a word of at most nine letters, three spaces and LF.
-const LINE: usize = 73;
-
-const LINES: usize = 4;
+// The bytes that the lines are lent: four lines of at most 73 bytes, which are three numbers of at most twenty digits, a word of at
+// most nine letters, three spaces and LF.
+const MOST: usize = 292;
 
 // Puts the bytes of a word from `at` on. As all that follow, it returns the place after what it put.
 fn put(out: &mut [u8], at: usize, word: &[u8]) -> usize
@@ -58,7 +57,10 @@ fn put_word(out: &mut [u8], at: usize, v: Verdict) -> usize
         Verdict::Accepted(_) => put(out, at, b" accepted"),
         Verdict::Missed { time: _, id: _ } => put(out, at, b" missed"),
         Verdict::Undecided => put(out, at, b" undecided"),
-        Verdict::Refused { number: _, place: _ } => put(out, at, b" refused"),
+        Verdict::Refused {
+            number: _,
+            place: _,
+        } => put(out, at, b" refused"),
     }
 }
 
@@ -111,7 +113,7 @@ pub fn report(text: &[u8], out: &mut [u8]) -> usize
     ensures { λ r. ⌜ Counts r (now (out .exit)) ⌝ }
     ensures { λ r. ⌜ Reports (now (text .entry)) (now (out .entry)) (now (out .exit)) r ⌝ }
 {
-    if out.len() < LINES * LINE {
+    if out.len() < MOST {
         return 0;
     }
     let a = answer(out, 0, 1, text);

@@ -1,7 +1,9 @@
-use mathlib.Core.Path.{refl, sym}
+-- `otter_responses` meets its contract: checks 1 and 2, and then what the checker says of sixteen numbers, said of their bytes.
+use mathlib.Core.Path.{refl}
 use Prim.Native.Nat.{ℕ, _<_}
 use native.Mathlib.Omega.{arith}
 use borrow.Author.Tests.{lt-ltb}
+use borrow.Author.Needs.{needs}
 use lib.Dec.{ltb}
 use lib.ListN.{length, getD}
 use Rattle.rules.specs.declared.Verdict.the-variants.{Refused}
@@ -9,72 +11,51 @@ use Rattle.rules.specs.Checks.{check, policyWrong, tableRead}
 use Rattle.checker.proofs.Replied.{fails, passes, given}
 use Rattle.boundary.proofs.Bounds.{bytes-small}
 use Rattle.boundary.proofs.Held.{right, buffer}
-use borrow.Author.Needs.{needs}
 use Rattle.boundary.proofs.otter_responses.Statement.{statement}
 use Rattle.boundary.proofs.otter_responses.Tie as tie
-use Rattle.boundary.proofs.otter_responses.Reads as reads
-use Rattle.boundary.proofs.otter_responses.Lts as lts
-use Rattle.boundary.proofs.little.read.Reads as read-reads
-use Rattle.boundary.proofs.little.write.Reads as write-reads
-use Rattle.boundary.proofs.pack.refused.Reads as refused-reads
-use Rattle.boundary.proofs.pack.verdict.Reads as verdict-reads
-use Rattle.checker.proofs.responses.Reads as responses-reads
-use Rattle.table.proofs.policy_wrong.Reads as policy-wrong-reads
 
--- src/lib.rt:27:8
 policy-wrong-requires : tie.Need-policy-wrong-requires
 policy-wrong-requires c κs = search needs
 
--- src/lib.rt:28:9
 refused-requires : tie.Need-refused-requires
 refused-requires c κs = search needs
 
--- src/lib.rt:28:9
 returns : tie.Need-returns
-returns c = 
+returns c =
     let x = c .before .before .before .before .before .args in
     let wrong = fails 1 (policyWrong (x .policy)) (check 2 (ltb (length (x .responses .now)) 64) (tableRead (x .text .now) .refusal)) (c .before .before .policy-wrong .ensures) (c .before .if1 .taken) in
     record { reply = Refused 1 0; right = given wrong (λ z. omega arith) (x .policy) (x .allowance) (x .text .now); buffer = refl; crosses = c .refused .ensures }
 
--- src/lib.rt:31:9
 refused-requires-2 : tie.Need-refused-requires-2
 refused-requires-2 c κs = search needs
 
--- src/lib.rt:31:9
 returns-2 : tie.Need-returns-2
-returns-2 c = 
+returns-2 c =
     let x = c .before .before .before .before .before .before .args in
     let short = fails 2 (ltb (length (x .responses .now)) 64) (tableRead (x .text .now) .refusal) refl (lt-ltb (length (x .responses .now)) 64 (c .before .if2 .taken)) in
     let wrong = passes 1 (policyWrong (x .policy)) (c .before .before .before .policy-wrong .ensures) (c .before .before .if1 .left) short in
     record { reply = Refused 2 0; right = given wrong (λ z. omega arith) (x .policy) (x .allowance) (x .text .now); buffer = refl; crosses = c .refused2 .ensures }
 
--- src/lib.rt:34:29
 slice-aggregate-read : tie.Need-slice-aggregate-read
 slice-aggregate-read c = search needs
 
--- src/lib.rt:34:5
 read-requires : tie.Need-read-requires
 read-requires c κs = search needs
 
--- src/lib.rt:35:57
 slice-aggregate-responses : tie.Need-slice-aggregate-responses
 slice-aggregate-responses c = search needs
 
--- src/lib.rt:35:9
 responses-requires : tie.Need-responses-requires
 responses-requires c κs = search needs
 
--- src/lib.rt:36:19
 slice-aggregate-write : tie.Need-slice-aggregate-write
 slice-aggregate-write c = search needs
 
--- src/lib.rt:36:5
 write-requires : tie.Need-write-requires
 write-requires c κs = search needs
 
--- src/lib.rt:37:5
 verdict-requires : tie.Need-verdict-requires
-verdict-requires c κs = 
+verdict-requires c κs =
     let x = c .before .before .before .before .before .before .before .before .before .before .before .before .before .before .before .before .before .args in
     let known = c .before .before .before .before .before .before .before .before .before .before .before .before .before .before .before .slice-known in
     let v = c .before .before .before .before .before .before .responses in
@@ -82,13 +63,11 @@ verdict-requires c κs =
     bytes-small (x .policy) (x .allowance) (length (x .responses .now)) (x .text .now) (v .result)
     (right (x .policy) (x .allowance) (x .text .now) (x .responses .now) (λ i. omega (arith, known .given i)) (c .before .before .before .before .before .before .before .before .before .before .before .before .if2 .left) _ (v .result) are)
 
--- src/lib.rt:23:1
 same-length : tie.Need-same-length
 same-length c = search needs
 
--- src/lib.rt:23:1
 returns-3 : tie.Need-returns-3
-returns-3 c = 
+returns-3 c =
     let x = c .before .before .before .before .before .before .before .before .before .before .before .before .before .before .before .before .before .before .args in
     let known = c .before .before .before .before .before .before .before .before .before .before .before .before .before .before .before .before .slice-known in
     let v = c .before .before .before .before .before .before .before .responses in

@@ -1,37 +1,28 @@
+-- `put_number` meets its contract: the library's digits are those of `decimal`.
 use mathlib.Core.Path.{_∙_}
 use native.Mathlib.Omega.{arith}
-use Rattle.report.proofs.Decimal.{fewest-low, decimal-is}
 use borrow.Author.Needs.{needs}
+use Rattle.report.proofs.Decimal.{fewest-low, decimal-is}
 use Rattle.report.proofs.put_number.Statement.{statement}
 use Rattle.report.proofs.put_number.Tie as tie
-use Rattle.report.proofs.put_number.Reads as reads
-use Rattle.report.proofs.put_number.Lts as lts
-use Rattle.io.proofs.decimal.Reads as decimal-reads
-use Rattle.report.proofs.put.Reads as put-reads
 
--- src/lib.rt:37:9
 decimal-requires : tie.Need-decimal-requires
 decimal-requires c κs = search needs
 
--- src/lib.rt:38:18
 array-share-prefix-digits : tie.Need-array-share-prefix-digits
 array-share-prefix-digits c = search needs
 
--- src/lib.rt:38:18
 slice-aggregate-put : tie.Need-slice-aggregate-put
 slice-aggregate-put c = search needs
 
--- src/lib.rt:38:5
 put-requires : tie.Need-put-requires
 put-requires c κs =
     let d = c .before .before .decimal in
     omega (arith, d .ensures .0 .1, fewest-low (c .before .before .before .before .before .args .n) (d .result) (d .ensures .1 .0) (omega arith))
 
--- src/lib.rt:31:1
 same-length : tie.Need-same-length
 same-length c = search needs
 
--- src/lib.rt:31:1
 returns : tie.Need-returns
 returns c =
     let n = c .before .before .before .before .before .before .before .before .args .n in

@@ -1,14 +1,11 @@
+-- `little::write` meets its contract. The loop's invariant: the bytes of the numbers passed, and then the bytes as they were.
 use mathlib.Core.Path.{refl}
 use Prim.Native.Nat.{_-_}
 use native.Mathlib.Omega.{arith}
-use borrow.Author.Needs.{needs}
 use Rattle.boundary.specs.Bytes.{bytesOf}
 use Rattle.boundary.proofs.Numbers.{Writing, writing-turn, writing-done}
 use Rattle.boundary.proofs.little.write.Statement.{statement}
 use Rattle.boundary.proofs.little.write.Tie as tie
-use Rattle.boundary.proofs.little.write.Reads as reads
-use Rattle.boundary.proofs.little.write.Lts as lts
-use Rattle.boundary.proofs.little.put.Reads as put-reads
 
 abbrev Inv-loop : tie.InvT-loop
 Inv-loop numbers bytes₀ i₀ bytes i = Writing numbers bytes₀ bytes i
@@ -16,44 +13,34 @@ Inv-loop numbers bytes₀ i₀ bytes i = Writing numbers bytes₀ bytes i
 abbrev μ-loop : tie.MeasureT-loop
 μ-loop numbers bytes₀ i₀ bytes i = 16 - i
 
--- src/little.rt:54:5
 loop-holds : tie.Need-loop-holds Inv-loop μ-loop
 unfolding bytesOf
 loop-holds c = (omega arith, refl, refl)
 
--- src/little.rt:55:20
 mul-put : tie.Need-mul-put Inv-loop μ-loop
 mul-put c = omega arith
 
--- src/little.rt:55:27
 mul-put-2 : tie.Need-mul-put-2 Inv-loop μ-loop
 mul-put-2 c = omega arith
 
--- src/little.rt:55:27
 shared-slice-read-put : tie.Need-shared-slice-read-put Inv-loop μ-loop
 shared-slice-read-put c = omega arith
 
--- src/little.rt:55:9
 put-requires : tie.Need-put-requires Inv-loop μ-loop
 put-requires c κs = omega arith
 
--- src/little.rt:56:9
 add-i : tie.Need-add-i Inv-loop μ-loop
 add-i c = omega arith
 
--- src/little.rt:54:5
 loop-less : tie.Need-loop-less Inv-loop μ-loop
 loop-less c = omega arith
 
--- src/little.rt:54:5
 loop-again : tie.Need-loop-again Inv-loop μ-loop
 loop-again c = let at = c .before .before .before .before .before .before .loop in let a = c .before .before .before .before .before .before .before .before .before in writing-turn (a .args .numbers .now) (a .args .bytes .now) (at .bytes) _ (at .i) (a .pre .0) (a .pre .1) (at .inv) (omega arith) (c .before .before .put .ensures)
 
--- src/little.rt:48:1
 same-length : tie.Need-same-length Inv-loop μ-loop
 same-length c = omega arith
 
--- src/little.rt:48:1
 returns : tie.Need-returns Inv-loop μ-loop
 returns c = let at = c .before .loop in let a = c .before .before .before .before in writing-done (a .args .numbers .now) (a .args .bytes .now) (at .bytes) (at .i) (a .pre .0) (at .inv) (omega arith)
 
