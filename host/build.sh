@@ -6,7 +6,7 @@
 # LIB      the static library that exports the otter_ functions
 # OUT      where the programs go (build/ beside this script if not given)
 # LDLIBS   what else the library has to be linked with
-# PROGRAM  worked, compare, show, bench: all of them if none is named
+# PROGRAM  worked, compare, test1, show, bench: all of them if none is named
 #
 # Before anything else the header is compiled alone, as C99 and as C++, where
 # a warning is an error.
@@ -49,6 +49,7 @@ sources_of() {
     worked) echo worked.c event.c sides.c tables.c reference.c ;;
     compare) echo compare.c random.c event.c sides.c tables.c reference.c ;;
     show) echo show.c ;;
+    test1) echo test1.c tables.c reference.c ;;
     bench) echo bench.c event.c sides.c tables.c reference.c ;;
     *)
         echo "host/build.sh: no program $1" >&2
@@ -78,7 +79,7 @@ if $compiler -x c++ -fsyntax-only /dev/null 2>/dev/null; then
 fi
 mkdir -p "$out"
 out=$(cd "$out" && pwd)
-[ $# -gt 0 ] || set -- worked compare show bench
+[ $# -gt 0 ] || set -- worked compare test1 show bench
 for program in "$@"; do
     build "$program"
 done
