@@ -1,0 +1,240 @@
+-- How large a reply is: every reply that the rules give is small, so that it crosses as one number. Times are at most 2^48, the
+-- allowance that always decides, or the slots of a lent buffer; ids are at most 255 where the table passes. The place of a refusal
+-- is a line of a text of at most 4,096 bytes, or an id of at most five digits. The exported functions use it, and Unpacked.
+use mathlib.Core.Path.{_≡_, refl}
+use mathlib.Core.Logic.{inl, inr}
+use mathlib.Core.Bool.{Bool, true, false}
+use mathlib.Core.List.{List, [], _∷_, map}
+use Prim.Native.Nat.{ℕ, zero, suc, _+_, _*_, _-_, _/_, _%_, _^_, _≤_, _<_, pred}
+use native.Mathlib.Nat.{add-zero, zero-add, pow-suc, pow-le-pow-right}
+use native.Mathlib.Omega.{arith}
+use borrow.Author.Tests.{eqb-true, leb-true, ltb-false}
+use lib.Dec.{eqb, leb, ltb}
+use lib.ListN.{length, drop, getD}
+use Rattle.rules.specs.declared.Row.{Row}
+use Rattle.rules.specs.declared.Refusal.{Refusal}
+use Rattle.rules.specs.Text.{lines, header, same, fields, isDigit, digits, inner, good, closed, nil, behind, shaped, all, wellFormed, firstBad, illFormed, badLine, number, value, rowOf, rowsOf, breaks, opened, push}
+use Rattle.rules.specs.declared.Verdict.{Verdict}
+use Rattle.rules.specs.declared.ScheduleReply.{ScheduleReply}
+use Rattle.rules.specs.Table.{omax, hyper}
+use Rattle.rules.specs.Checks.{better, smallest, fault, place, firstFault, checked, rowsChecked, tableRead, check, within, policyWrong, slotsWrong, verdictRefusal, slotsRefusal}
+use Rattle.rules.specs.Policies.{policy, row}
+use Rattle.rules.specs.Slots.{Choice, complete, run, stated}
+use Rattle.rules.specs.Decided.{missedAt, SlotsNeeded}
+use Rattle.rules.specs.Verdicts.{tasksOf, systemOf, missedId, plain, Decides, Replies, VerdictIs, response, Worst}
+use Rattle.rules.specs.Schedules.{Fills, Writes}
+use Rattle.rules.specs.declared.Verdict.the-variants as verdict
+use Rattle.rules.specs.declared.ScheduleReply.the-variants as schedule
+use Rattle.basics.specs.Cases.{test, eq-case, clash, both-true}
+use Rattle.basics.specs.Search.{lowest-top}
+use Rattle.reordering.specs.All.{All}
+use Rattle.reordering.specs.Passed.{Fine, Passed, passed, passed-canonical}
+use Rattle.theory.specs.Policies.{policy-repeats}
+use Rattle.theory.specs.Rows.{at-most}
+use Rattle.theory.specs.Texts.{valid-rows}
+use Rattle.boundary.specs.Packed.{SmallRefusal, Small, SmallSchedule}
+use Rattle.boundary.specs.Crossing.{bytesRefusal}
+
+-- AN ID OF AT MOST FIVE DIGITS
+
+digit-low : (b : ℕ) → isDigit b ≡ true → b - 48 ≤ 9
+digit-low b e = test (ltb b 48) (λ l. clash (rw l at e) refl) (λ l. omega (arith, leb-true b 57 (rw l at e)))
+
+-- a has i digits, and those at the front of s follow it
+number-low : (s : List ℕ) (a i : ℕ) → a + 1 ≤ 10 ^ i → number a (digits s) + 1 ≤ 10 ^ (i + length (digits s))
+unfolding number digits
+number-low [] a i h = rw (add-zero i) h
+number-low (b ∷ s) a i h = test (isDigit b)
+    (λ e. let on : i + suc (length (digits s)) ≡ suc i + length (digits s) = omega arith in
+    rw (e, on) (number-low s (a * 10 + (b - 48)) (suc i) (rw (pow-suc 10 i) (omega (arith, digit-low b e)))))
+    (λ e. rw (e, add-zero i) h)
+
+value-low : (f : List ℕ) → good f ≡ true → value f ≤ 99999
+value-low f e =
+    let ds = digits (inner f) in
+    let shape = both-true (nil (behind f)) (shaped ds) (both-true (closed f) _ e .1) .1 in
+    let five = leb-true (length ds) 5 (both-true (leb (length ds) 5) _ (both-true (leb 1 (length ds)) _ shape .1) .0) in
+    let low : value f + 1 ≤ 10 ^ length ds = rw (zero-add (length ds)) at (number-low (inner f) 0 0 (omega arith)) in
+    omega (arith, pow-le-pow-right {n = 10} (omega arith) five)
+
+abbrev Low : Row → Type 0
+Low r = r .id ≤ 99999
+
+first-low : (fs : List (List ℕ)) → all good fs ≡ true → getD (map value fs) 0 0 ≤ 99999
+unfolding all
+first-low [] h = omega arith
+first-low (f ∷ fs) h = value-low f (both-true (good f) (all good fs) h .0)
+
+id-low : (l : List ℕ) → wellFormed l ≡ true → Low (rowOf l)
+id-low l e = first-low (fields l) (both-true (eqb (length (fields l)) 8) (all good (fields l)) e .1)
+
+rows-low : (n : ℕ) (ls : List (List ℕ)) → 0 < n → firstBad n ls ≡ 0 → All Low (map rowOf ls)
+unfolding firstBad
+rows-low n [] h e = tt
+rows-low n (l ∷ ls) h e = test (wellFormed l)
+    (λ w. (id-low l w, rows-low (suc n) ls (omega arith) (rw w at e)))
+    (λ w. absurd (omega (arith, rw w at e)))
+
+text-low : (s : List ℕ) → badLine s ≡ 0 → All Low (rowsOf s)
+text-low s e = go (lines s) e
+  where
+    go : (ls : List (List ℕ)) → illFormed ls ≡ 0 → All Low (map rowOf (drop 1 ls))
+    go [] h = absurd (omega arith)
+    go (l ∷ ls) h = test (same l header) (λ w. rows-low 2 ls (omega arith) (rw w at h)) (λ w. absurd (omega (arith, rw w at h)))
+
+-- THE PLACE OF CHECKS 6 TO 12
+
+better-low : (hit : Bool) (id b : ℕ) → id ≤ 99999 → b ≤ 100000 → better hit id b ≤ 100000
+better-low false id b h k = k
+better-low true id b h k = test (eqb b 0)
+    (λ e. rw e (omega arith))
+    (λ e. rw e (test (ltb (id + 1) b) (λ l. rw l (omega arith)) (λ l. rw l k)))
+
+smallest-low : (p : Row → Bool) (b : ℕ) (rs : List Row) → All Low rs → b ≤ 100000 → smallest p b rs ≤ 100000
+unfolding smallest
+smallest-low p b [] h k = k
+smallest-low p b (r ∷ rs) h k = smallest-low p (better (p r) (r .id) b) rs (h .1) (better-low (p r) (r .id) b (h .0) k)
+
+abbrev SmallR : Refusal → Type 0
+SmallR f = SmallRefusal (f .number) (f .place)
+
+fault-small : (d n : ℕ) (rows : List Row) → All Low rows → n + d ≤ 13 → SmallR (firstFault d n rows)
+unfolding firstFault place
+fault-small zero n rows h k = (omega arith, omega arith)
+fault-small (suc d) n rows h k = test (eqb (place n rows) 0)
+    (λ e. rw e (fault-small d (suc n) rows h (omega arith)))
+    (λ e. rw e (omega arith, omega (arith, smallest-low (fault n rows) 0 rows h (omega arith))))
+
+-- THE LINE OF CHECK 4
+
+opened-length : (s : List ℕ) (ls : List (List ℕ)) → length (opened s ls) ≤ length ls
+opened-length [] ls = omega arith
+opened-length (b ∷ s) ls = omega arith
+
+push-length : (b : ℕ) (ls : List (List ℕ)) → length (push b ls) ≤ suc (length ls)
+push-length b [] = omega arith
+push-length b (l ∷ ls) = omega arith
+
+lines-length : (s : List ℕ) → length (lines s) ≤ suc (length s)
+unfolding lines
+lines-length [] = omega arith
+lines-length (b ∷ []) = omega arith
+lines-length (b ∷ c ∷ s) = test (breaks (b ∷ c ∷ s))
+    (λ e. rw e (omega (arith, opened-length s (lines s), lines-length s)))
+    (λ e. rw e (omega (arith, push-length b (lines (c ∷ s)), lines-length (c ∷ s))))
+
+bad-length : (n : ℕ) (ls : List (List ℕ)) → firstBad n ls ≤ n + length ls
+unfolding firstBad
+bad-length n [] = omega arith
+bad-length n (l ∷ ls) = test (wellFormed l) (λ e. rw e (omega (arith, bad-length (suc n) ls))) (λ e. rw e (omega arith))
+
+bad-low : (s : List ℕ) → length s ≤ 4096 → badLine s ≤ 99999
+bad-low s h = go (lines s) (omega (arith, lines-length s))
+  where
+    go : (ls : List (List ℕ)) → length ls ≤ 4097 → illFormed ls ≤ 99999
+    go [] k = omega arith
+    go (l ∷ ls) k = test (same l header) (λ e. rw e (omega (arith, bad-length 2 ls))) (λ e. rw e (omega arith))
+
+-- EVERY REFUSAL
+
+checked-small : (rows : List Row) (f : Refusal) → SmallR f → SmallR (checked rows f .refusal)
+unfolding checked
+checked-small rows f h = test (eqb (f .number) 0)
+    (λ e. test (leb (hyper rows) 100000) (λ g. rw (e, g) (omega arith, omega arith)) (λ g. rw (e, g) (omega arith, omega arith)))
+    (λ e. rw e h)
+
+rows-small : (rows : List Row) → All Low rows → SmallR (rowsChecked rows .refusal)
+unfolding rowsChecked
+rows-small rows h = test (within 1 16 (length rows))
+    (λ e. rw e (checked-small rows (firstFault 7 6 rows) (fault-small 7 6 rows h (omega arith))))
+    (λ e. rw e (omega arith, omega arith))
+
+read-small : (s : List ℕ) → SmallR (tableRead s .refusal)
+unfolding tableRead
+read-small s = test (leb (length s) 4096)
+    (λ e. test (eqb (badLine s) 0)
+    (λ f. rw (e, f) (rows-small (rowsOf s) (text-low s (eqb-true (badLine s) 0 f))))
+    (λ f. rw (e, f) (omega arith, bad-low s (leb-true (length s) 4096 e))))
+    (λ e. rw e (omega arith, omega arith))
+
+check-small : (n : ℕ) (b : Bool) (f : Refusal) → n ≤ 13 → SmallR f → SmallR (check n b f)
+check-small n true f h k = (h, omega arith)
+check-small n false f h k = k
+
+-- a check whose number is not 0 passes where none is given
+pub check-none : (n : ℕ) (b : Bool) (f : Refusal) → 0 < n → check n b f .number ≡ 0 → (b ≡ false) × (f .number ≡ 0)
+check-none n true f h e = absurd (omega arith)
+check-none n false f h e = (refl, e)
+
+-- A TABLE THAT PASSES
+
+row-low : (ws : List Row) → All Fine ws → (i : ℕ) → (row ws i .id ≤ 255) × (row ws i .period ≤ 10000)
+row-low [] h i = (omega arith, omega arith)
+row-low (w ∷ ws) h zero = (h .0 .id-high, h .0 .period-high)
+row-low (w ∷ ws) h (suc i) = row-low ws (h .1) i
+
+module _ (s : List ℕ) (fine : tableRead s .refusal .number ≡ 0) where
+  tasks-pass : Passed (tasksOf s)
+  tasks-pass = passed-canonical (rowsOf s) (passed s fine .rows)
+
+  pub tasks-few : length (tasksOf s) ≤ 16
+  tasks-few = tasks-pass .few
+
+  task-low : (i : ℕ) → (row (tasksOf s) i .id ≤ 255) × (row (tasksOf s) i .period ≤ 10000)
+  task-low = row-low (tasksOf s) (tasks-pass .fine)
+
+  missed-low : (p : ℕ) (c : ℕ → Choice) (t : ℕ) → missedId (systemOf p s) c t ≤ 255
+  missed-low p c t = task-low (pred (missedAt (systemOf p s) c t)) .0
+
+  pub worst-low : (p i m : ℕ) → Worst (systemOf p s) i m → m ≤ 10001
+  unfolding response
+  worst-low p i m w =
+      let y = systemOf p s in
+      omega (arith, w .takes, task-low i .1, lowest-top (λ e. complete (run y (stated y) (w .at + suc e)) i) (y .row i .period))
+
+  needed-low : (p n : ℕ) → SlotsNeeded (systemOf p s) (omax (tasksOf s)) (hyper (tasksOf s)) plain n → n ≤ 2 ^ 48
+  needed-low p = at-most (policy p) (policy-repeats p) (tasksOf s) (valid-rows (tasksOf s) tasks-pass)
+
+  decides-small : (p a : ℕ) (v : Verdict) → Decides (systemOf p s) (omax (tasksOf s)) (hyper (tasksOf s)) a v → Small v
+  decides-small p a (verdict.Accepted n) d = needed-low p n (inr (d .0))
+  decides-small p a (verdict.Missed t i) d = (needed-low p t (inl (d .0)), rw (d .2) (missed-low p (stated (systemOf p s)) t))
+  decides-small p a verdict.Undecided d = tt
+  decides-small p a (verdict.Refused n q) d = absurd d
+
+-- VERDICT AND RESPONSES
+replies-small : (f : Refusal) (p a : ℕ) (text : List ℕ) (v : Verdict) → SmallR f → (f .number ≡ 0 → tableRead text .refusal .number ≡ 0) → Replies f p a text v → Small v
+replies-small f p a text v h fine r = eq-case (f .number) 0
+    (λ e. decides-small text (fine e) p a v (r .decided e))
+    (λ e. rw (r .refused e) h)
+
+pub verdict-small : (p a : ℕ) (text : List ℕ) (v : Verdict) → VerdictIs p a text v → Small v
+verdict-small p a text v = replies-small (verdictRefusal p text) p a text v
+    (check-small 1 (policyWrong p) (tableRead text .refusal) (omega arith) (read-small text))
+    (λ e. check-none 1 (policyWrong p) (tableRead text .refusal) (omega arith) e .1)
+
+pub bytes-small : (p a n : ℕ) (text : List ℕ) (v : Verdict) → Replies (bytesRefusal p n text) p a text v → Small v
+bytes-small p a n text v =
+    let f = tableRead text .refusal in
+    let g = check 2 (ltb n 64) f in
+    replies-small (bytesRefusal p n text) p a text v
+    (check-small 1 (policyWrong p) g (omega arith) (check-small 2 (ltb n 64) f (omega arith) (read-small text)))
+    (λ e. check-none 2 (ltb n 64) f (omega arith) (check-none 1 (policyWrong p) g (omega arith) e .1) .1)
+
+-- SCHEDULE AND AS RUN
+slots-low : (n : ℕ) → slotsWrong n ≡ false → n ≤ 65536
+slots-low n e = test (eqb (n % 2) 0) (λ h. ltb-false 65536 n (rw h at e)) (λ h. clash refl (rw h at e))
+
+pub writes-small : (p : ℕ) (text : List ℕ) (c : ℕ → Choice) (before after : List ℕ) (v : ScheduleReply)
+    → Writes (slotsRefusal p (length before) text) (systemOf p text) c before after v → SmallSchedule v
+writes-small p text c before after v w =
+    let f = tableRead text .refusal in
+    let g = check 2 (slotsWrong (length before)) f in
+    eq-case (slotsRefusal p (length before) text .number) 0
+    (λ e. let second = check-none 2 (slotsWrong (length before)) f (omega arith) (check-none 1 (policyWrong p) g (omega arith) e .1) in
+    go v (second .0) (second .1) (w .filled e .0))
+    (λ e. rw (w .refused e .0) (check-small 1 (policyWrong p) g (omega arith) (check-small 2 (slotsWrong (length before)) f (omega arith) (read-small text))))
+  where
+    go : (v : ScheduleReply) → slotsWrong (length before) ≡ false → tableRead text .refusal .number ≡ 0 → Fills (systemOf p text) c (length before / 2) v → SmallSchedule v
+    go schedule.Filled h fine d = tt
+    go (schedule.Missed t i) h fine d = (omega (arith, d .1, slots-low (length before) h), rw (d .2) (missed-low text fine p c t))
+    go (schedule.Refused n q) h fine d = absurd d

@@ -1,0 +1,62 @@
+-- What crosses to the host: document 01, "The host program is written in C and calls the checker with numbers and byte slices".
+-- Definitions.
+use mathlib.Core.Path.{_≡_}
+use mathlib.Core.List.{List}
+use Prim.Native.Nat.{ℕ, _*_, _^_, _<_}
+use lib.Dec.{ltb}
+use lib.ListN.{length, take, drop}
+use Rattle.rules.specs.declared.Refusal.{Refusal}
+use Rattle.rules.specs.declared.Verdict.{Verdict}
+use Rattle.rules.specs.declared.Verdict.the-variants.{Accepted, Missed, Undecided, Refused}
+use Rattle.rules.specs.declared.ScheduleReply.{ScheduleReply}
+use Rattle.rules.specs.Checks.{check, policyWrong, tableRead}
+use Rattle.rules.specs.Policies.{System}
+use Rattle.rules.specs.Verdicts.{systemOf, Replies, VerdictIs, Worst}
+use Rattle.rules.specs.Schedules.{ScheduleIs, AsRunIs}
+use Rattle.boundary.specs.Packed.{packed, packedSchedule}
+use Rattle.boundary.specs.Bytes.{fourOf}
+
+-- VERDICT: r is the number of a reply that the rules give
+pub record VerdictCrosses (p a : ℕ) (text : List ℕ) (r : ℕ) : Type 0 where
+  pub reply : Verdict
+  pub right : VerdictIs p a text reply
+  pub crosses : r ≡ packed reply
+
+-- RESPONSES: "responses cross as four little-endian bytes each, so there refusal 2 means fewer than 64 bytes"
+abbrev pub bytesRefusal : ℕ → ℕ → List ℕ → Refusal
+bytesRefusal p n text = check 1 (policyWrong p) (check 2 (ltb n 64) (tableRead text .refusal))
+
+-- the four bytes from the place k on are those of m
+pub record Four (m k : ℕ) (bs : List ℕ) : Type 0 where
+  pub fits : m < 2 ^ 32
+  pub bytes : take 4 (drop k bs) ≡ fourOf m
+
+-- "the lent numbers hold, in ascending id, the largest of (completion − release) ..; entries past the last row stay", "and bytes
+-- past the 64th stay"
+pub record HoldBytes (y : System) (before after : List ℕ) : Type 0 where
+  pub length : length after ≡ length before
+  pub worst : (i : ℕ) → i < y .tasks → (m : ℕ) × Worst y i m × Four m (4 * i) after
+  pub rest : drop (4 * y .tasks) after ≡ drop (4 * y .tasks) before
+
+abbrev pub LeavesBytes : System → Verdict → List ℕ → List ℕ → Type 0
+LeavesBytes y (Accepted n) before after = HoldBytes y before after
+LeavesBytes y (Missed t i) before after = after ≡ before
+LeavesBytes y Undecided before after = after ≡ before
+LeavesBytes y (Refused n p) before after = after ≡ before
+
+pub record ResponsesCross (p a : ℕ) (text before after : List ℕ) (r : ℕ) : Type 0 where
+  pub reply : Verdict
+  pub right : Replies (bytesRefusal p (length before) text) p a text reply
+  pub buffer : LeavesBytes (systemOf p text) reply before after
+  pub crosses : r ≡ packed reply
+
+-- SCHEDULE and AS RUN: the bytes are those of the rules
+pub record ScheduleCrosses (p : ℕ) (text before after : List ℕ) (r : ℕ) : Type 0 where
+  pub reply : ScheduleReply
+  pub right : ScheduleIs p text before after reply
+  pub crosses : r ≡ packedSchedule reply
+
+pub record AsRunCrosses (p : ℕ) (text xs zs before after : List ℕ) (r : ℕ) : Type 0 where
+  pub reply : ScheduleReply
+  pub right : AsRunIs p text xs zs before after reply
+  pub crosses : r ≡ packedSchedule reply
