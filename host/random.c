@@ -206,6 +206,14 @@ static uint32_t random_edge(struct random *random)
     return random_chance(random, 80) ? RANDOM_OF(random, edges) : random_below(random, 100000);
 }
 
+/* n or one more, if that still fits in a field: six digits would make the
+ * line ill-formed. */
+static uint32_t at_or_above(struct random *random, uint32_t n)
+{
+    uint32_t next = n + random_below(random, 2);
+    return next < 100000 ? next : n;
+}
+
 static uint32_t *field_of(struct ref_row *row, uint32_t field)
 {
     uint32_t *fields[REF_FIELDS] = { &row->id, &row->offset, &row->wcet, &row->deadline,
@@ -259,13 +267,13 @@ static void spoil_once(struct random *random, struct random_table *table)
         row->priority = random_chance(random, 50) ? other->priority : random_edge(random);
         break;
     case 4:
-        row->deadline = row->period + random_below(random, 2);
+        row->deadline = at_or_above(random, row->period);
         break;
     case 5:
-        row->wcet = row->deadline + random_below(random, 2);
+        row->wcet = at_or_above(random, row->deadline);
         break;
     case 6:
-        row->resume = row->start + random_below(random, 2);
+        row->resume = at_or_above(random, row->start);
         break;
     case 7:
         edge_of_hyper_period(random, table);
