@@ -7,19 +7,18 @@
 //     schedule POLICY LENGTH               lends LENGTH bytes, each 170
 //     as_run POLICY LENGTH                 the same
 //
-// In a text round brackets stand around a row and a blank for its comma: (1 0 2 5 5 1 1 1). After a backslash h stands for the
-// header with its line end, r and n for CR and LF, c for a hundred zeros. A slot is written as its id and a letter for its kind:
-// i idle, l loading, e executing, m from the miss on, ? for a byte that is no kind. Where not every slot is written, or the
-// length is odd, a sum over all bytes follows.
+// The crate cases says how a text is written. A slot is written as its id and a letter for its kind: i idle, l loading,
+// e executing, m from the miss on, ? for a byte that is no kind. Where not every slot is written, or the length is odd, a sum
+// over all bytes follows.
 ghost use Prim.Native.Nat.{_≤_, _<_};
-ghost use lib.ListN.{length};
+use cases::before;
+use cases::behind;
+use cases::fitting;
+use cases::put;
+use cases::word;
 use libc::STDIN_FILENO;
-use libc::STDOUT_FILENO;
 use rules::ScheduleReply;
 use rules::Verdict;
-
-// Room for a text, over the limit of 4,096 bytes.
-const ROOM: usize = 5_000;
 
 // Numbers in a part of a line.
 const NUMBERS: usize = 64;
@@ -31,15 +30,6 @@ const MOST_BYTES: usize = 65_538;
 
 // Slots that are written one by one.
 const SHOWN: usize = 48;
-
-fn word(bytes: &[u8]) {
-    io::write_all(STDOUT_FILENO, bytes);
-}
-
-fn put(x: u64) {
-    word(b" ");
-    io::print_decimal(STDOUT_FILENO, x);
-}
 
 fn put_verdict(v: Verdict) {
     match v {
@@ -156,17 +146,6 @@ fn narrow(x: u64) -> u32 {
     4_294_967_295
 }
 
-// The lesser of a length and what there is room for.
-fn fitting(x: u64, most: usize) -> usize
-    ensures { λ r. ⌜ r ≤ most ⌝ }
-{
-    let n = x as usize;
-    if n < most {
-        return n;
-    }
-    most
-}
-
 // THE CALLS
 
 fn responses_in(policy: u32, allowance: u64, text: &[u8], numbers: &mut [u32]) {
@@ -176,7 +155,7 @@ fn responses_in(policy: u32, allowance: u64, text: &[u8], numbers: &mut [u32]) {
 
 fn responses(policy: u32, allowance: u64, text: &[u8], length: u64) {
     let mut numbers = [777u32; 17];
-    let n = fitting(length, MOST_RESPONSES);
+    let n = fitting(length as usize, MOST_RESPONSES);
     responses_in(policy, allowance, text, &mut numbers[..n]);
 }
 
@@ -187,7 +166,7 @@ fn schedule_in(policy: u32, text: &[u8], slots: &mut [u8]) {
 
 fn schedule(policy: u32, text: &[u8], length: u64) {
     let mut slots = [170u8; 65538];
-    let n = fitting(length, MOST_BYTES);
+    let n = fitting(length as usize, MOST_BYTES);
     schedule_in(policy, text, &mut slots[..n]);
 }
 
@@ -198,7 +177,7 @@ fn as_run_in(policy: u32, text: &[u8], requests: &[u32], loadings: &[u32], slots
 
 fn as_run(policy: u32, text: &[u8], length: u64, requests: &[u32], loadings: &[u32]) {
     let mut slots = [170u8; 65538];
-    let n = fitting(length, MOST_BYTES);
+    let n = fitting(length as usize, MOST_BYTES);
     as_run_in(policy, text, requests, loadings, &mut slots[..n]);
 }
 
@@ -273,120 +252,7 @@ fn entries(part: &[u8], list: &mut [u32; 64]) -> usize
     n
 }
 
-// THE TEXT, put into the buffer from a place on, as far as there is room; the place after it
-
-fn push(buffer: &mut [u8; 5000], at: usize, b: u8) -> usize {
-    if at < ROOM {
-        buffer[at] = b;
-        return at + 1;
-    }
-    at
-}
-
-fn append(buffer: &mut [u8; 5000], from: usize, part: &[u8]) -> usize {
-    let mut at = from;
-    let mut i: usize = 0;
-    while i < part.len() {
-        at = push(buffer, at, part[i]);
-        i += 1;
-    }
-    at
-}
-
-fn put_code(buffer: &mut [u8; 5000], at: usize, c: u8) -> usize {
-    if c == b'h' {
-        return append(
-            buffer,
-            at,
-            b"id,offset,wcet,deadline,period,start,resume,priority\r\n",
-        );
-    }
-    if c == b'c' {
-        return append(
-            buffer,
-            at,
-            b"0000000000000000000000000000000000000000000000000000000000000000000000000000000000000000000000000000",
-        );
-    }
-    if c == b'r' {
-        return push(buffer, at, b'\r');
-    }
-    if c == b'n' {
-        return push(buffer, at, b'\n');
-    }
-    push(buffer, at, c)
-}
-
-fn put_plain(buffer: &mut [u8; 5000], at: usize, c: u8) -> usize {
-    if c == b'(' {
-        return at;
-    }
-    if c == b')' {
-        return append(buffer, at, b"\r\n");
-    }
-    if c == b' ' {
-        return push(buffer, at, b',');
-    }
-    push(buffer, at, c)
-}
-
-// A byte of a written text, which a backslash precedes or not.
-fn put_byte(buffer: &mut [u8; 5000], at: usize, escaped: bool, c: u8) -> usize {
-    if escaped {
-        return put_code(buffer, at, c);
-    }
-    if c == b'\\' {
-        return at;
-    }
-    put_plain(buffer, at, c)
-}
-
-fn escapes(escaped: bool, c: u8) -> bool {
-    if escaped {
-        return false;
-    }
-    c == b'\\'
-}
-
-fn decode(buffer: &mut [u8; 5000], written: &[u8]) -> usize {
-    let mut at: usize = 0;
-    let mut escaped = false;
-    let mut i: usize = 0;
-    while i < written.len() {
-        let c = written[i];
-        at = put_byte(buffer, at, escaped, c);
-        escaped = escapes(escaped, c);
-        i += 1;
-    }
-    at
-}
-
 // A LINE, cut at its bars
-
-// The bytes before the first b.
-fn find(text: &[u8], b: u8) -> usize
-    ensures { λ r. ⌜ r ≤ length (now (text .entry)) ⌝ }
-{
-    let mut i: usize = 0;
-    while i < text.len() {
-        if text[i] == b {
-            return i;
-        }
-        i += 1;
-    }
-    i
-}
-
-// Those and the b itself, if there is one.
-fn through(text: &[u8], b: u8) -> usize
-    ensures { λ r. ⌜ r ≤ length (now (text .entry)) ⌝ }
-{
-    let k = find(text, b);
-    if k < text.len() {
-        return k + 1;
-    }
-    k
-}
 
 fn first(part: &[u8]) -> u8 {
     if 0 < part.len() {
@@ -413,12 +279,10 @@ fn with_lists(
 
 // Requests, a bar and loadings.
 fn as_run_of(policy: u32, length: u64, text: &[u8], input: &[u8]) {
-    let k = find(input, b'|');
-    let m = through(input, b'|');
     let mut requests = [0u32; 64];
-    let asked = entries(&input[..k], &mut requests);
+    let asked = entries(before(input, b'|'), &mut requests);
     let mut loadings = [0u32; 64];
-    let begun = entries(&input[m..], &mut loadings);
+    let begun = entries(behind(input, b'|'), &mut loadings);
     with_lists(policy, length, text, requests, asked, loadings, begun);
 }
 
@@ -433,37 +297,27 @@ fn answer(kind: u8, call: [u64; 64], text: &[u8], input: &[u8]) {
     }
 }
 
-fn with_text(kind: u8, call: [u64; 64], buffer: [u8; 5000], n: usize, input: &[u8]) {
-    if n <= ROOM {
-        answer(kind, call, &buffer[..n], input);
-    }
+fn with_text(kind: u8, call: [u64; 64], buffer: &[u8; cases::ROOM], n: usize, input: &[u8]) {
+    answer(kind, call, cases::start(buffer, n), input);
 }
 
 // A text, and what follows its bar.
 fn with_call(kind: u8, call: [u64; 64], input: &[u8]) {
-    let k = find(input, b'|');
-    let m = through(input, b'|');
-    let mut buffer = [0u8; 5000];
-    let n = decode(&mut buffer, &input[..k]);
-    with_text(kind, call, buffer, n, &input[m..]);
+    let mut buffer = [0u8; cases::ROOM];
+    let n = cases::decode(&mut buffer, before(input, b'|'));
+    with_text(kind, call, &buffer, n, behind(input, b'|'));
 }
 
 // A call, and what follows its bar.
 fn case(input: &[u8]) {
-    let k = find(input, b'|');
-    let m = through(input, b'|');
     let mut call = [0u64; 64];
-    numbers(&input[..k], &mut call);
-    with_call(first(input), call, &input[m..]);
+    numbers(before(input, b'|'), &mut call);
+    with_call(first(input), call, behind(input, b'|'));
 }
 
 fn line(input: &[u8]) {
-    let k = find(input, b'|');
-    word(&input[..k]);
-    if k < input.len() {
-        word(b" ->");
-        let m = k + 1;
-        case(&input[m..]);
+    if cases::reason(input) {
+        case(behind(input, b'|'));
     }
     word(b"\n");
 }
@@ -471,13 +325,9 @@ fn line(input: &[u8]) {
 fn lines(input: &[u8]) {
     let mut t = input;
     while 0 < t.len() {
-        let m = find(t, b'\n');
-        line(&t[..m]);
-        if t.len() <= m {
-            return;
-        }
-        let k = m + 1;
-        t = &t[k..];
+        line(before(t, b'\n'));
+        let rest = behind(t, b'\n');
+        t = rest;
     }
 }
 

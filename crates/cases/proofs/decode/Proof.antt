@@ -1,15 +1,15 @@
--- `vectors_table::decode` stays within the written text.
+-- `cases::decode` stays within the written text.
 use Prim.Native.Nat.{_-_, _≤_}
 use lib.ListN.{length}
 use borrow.Author.Needs.{needs}
-use Rattle.vectors_table.proofs.decode.Statement.{statement}
-use Rattle.vectors_table.proofs.decode.Tie as tie
+use Rattle.cases.proofs.decode.Statement.{statement}
+use Rattle.cases.proofs.decode.Tie as tie
 
 abbrev Inv-loop : tie.InvT-loop
-Inv-loop buffer₀ written at₀ escaped₀ i₀ buffer at escaped i = i ≤ length written
+Inv-loop buffer₀ written at₀ escaped₀ in-row₀ i₀ buffer at escaped in-row i = i ≤ length written
 
 abbrev μ-loop : tie.MeasureT-loop
-μ-loop buffer₀ written at₀ escaped₀ i₀ buffer at escaped i = length written - i
+μ-loop buffer₀ written at₀ escaped₀ in-row₀ i₀ buffer at escaped in-row i = length written - i
 
 loop-holds : tie.Need-loop-holds Inv-loop μ-loop
 loop-holds c = search needs
@@ -19,6 +19,9 @@ shared-slice-read-c c = search needs
 
 put-byte-requires : tie.Need-put-byte-requires Inv-loop μ-loop
 put-byte-requires c κs = search needs
+
+still-in-row-requires : tie.Need-still-in-row-requires Inv-loop μ-loop
+still-in-row-requires c κs = search needs
 
 escapes-requires : tie.Need-escapes-requires Inv-loop μ-loop
 escapes-requires c κs = search needs
@@ -44,6 +47,7 @@ decode-spec =
     loop-holds
     shared-slice-read-c
     put-byte-requires
+    still-in-row-requires
     escapes-requires
     add-i
     loop-less

@@ -1,9 +1,9 @@
--- `vectors_table::append` stays within the part.
+-- `cases::append` stays within the part.
 use Prim.Native.Nat.{_-_, _≤_}
 use lib.ListN.{length}
 use borrow.Author.Needs.{needs}
-use Rattle.vectors_table.proofs.append.Statement.{statement}
-use Rattle.vectors_table.proofs.append.Tie as tie
+use Rattle.cases.proofs.append.Statement.{statement}
+use Rattle.cases.proofs.append.Tie as tie
 
 abbrev Inv-loop : tie.InvT-loop
 Inv-loop buffer₀ from part at₀ i₀ buffer at i = i ≤ length part

@@ -1,8 +1,8 @@
--- `vectors_table::ten_rows` ends.
+-- `cases::ten_rows` ends.
 use Prim.Native.Nat.{_-_, _≤_}
 use borrow.Author.Needs.{needs}
-use Rattle.vectors_table.proofs.ten_rows.Statement.{statement}
-use Rattle.vectors_table.proofs.ten_rows.Tie as tie
+use Rattle.cases.proofs.ten_rows.Statement.{statement}
+use Rattle.cases.proofs.ten_rows.Tie as tie
 
 abbrev Inv-loop : tie.InvT-loop
 Inv-loop buffer₀ from at₀ i₀ t5 buffer at i = i ≤ 10

@@ -1,9 +1,9 @@
--- `vectors_checker::find` stays within the text.
+-- `cases::find` stays within the text.
 use Prim.Native.Nat.{_-_, _≤_}
 use lib.ListN.{length}
 use borrow.Author.Needs.{needs}
-use Rattle.vectors_checker.proofs.find.Statement.{statement}
-use Rattle.vectors_checker.proofs.find.Tie as tie
+use Rattle.cases.proofs.find.Statement.{statement}
+use Rattle.cases.proofs.find.Tie as tie
 
 abbrev Inv-loop : tie.InvT-loop
 Inv-loop text b i₀ i = i ≤ length text
