@@ -1,19 +1,24 @@
--- The table in hand, read from a text that passed the checks: it is sound, and its tasks are the text's.
-use mathlib.Core.Path.{_≡_, sym, ap}
+-- What the code holds after the checks: the refusal that the rules give; or, where there is none, a sound table whose tasks are the
+-- text's. The four replies use it.
+use mathlib.Core.Path.{_≡_, sym, ap, _∙_}
+use mathlib.Core.Bool.{Bool, false}
 use mathlib.Core.List.{List, _++_}
 use Prim.Native.Nat.{ℕ}
 use native.Mathlib.Omega.{arith}
 use lib.ListN.{length, replicate, length-append, length-replicate}
 use lib.Seq.{length-take-le}
+use Rattle.rules.specs.declared.Refusal.{Refusal}
 use Rattle.rules.specs.declared.Row.{Row}
 use Rattle.rules.specs.declared.TableRead.{TableRead}
 use Rattle.rules.specs.Text.{rowsOf}
 use Rattle.rules.specs.Table.{noRow, canonical, padded, tableOf}
-use Rattle.rules.specs.Checks.{tableRead}
+use Rattle.rules.specs.Checks.{check, policyWrong, tableRead}
 use Rattle.rules.specs.Policies.{policy, system}
 use Rattle.rules.specs.Verdicts.{tasksOf, systemOf}
 use Rattle.reordering.specs.Canonical.{canonical-rows, canonical-length, canonical-omax, canonical-hyper}
 use Rattle.reordering.specs.Passed.{Passed, passed, passed-canonical}
+use Rattle.basics.specs.Cases.{test}
+use Rattle.checker.specs.Admitted.{admitted}
 use Rattle.checker.specs.Machine.{Sound, live, systemIn}
 
 padded-length : (rows : List Row) → length (padded rows) ≡ 16
@@ -31,22 +36,46 @@ sound-rows rows p =
     }
 
 module _ (s : List ℕ) (fine : tableRead s .refusal .number ≡ 0) where
-  pub sound : Sound (tableRead s .table)
+  sound : Sound (tableRead s .table)
   sound = rw (passed s fine .table) (sound-rows (rowsOf s) (passed s fine .rows))
 
-  pub live-tasks : live (tableRead s .table) ≡ tasksOf s
+  live-tasks : live (tableRead s .table) ≡ tasksOf s
   live-tasks = rw (passed s fine .table) (canonical-rows (rowsOf s) (passed s fine .rows .few))
 
-  pub system-in : (p : ℕ) → systemIn p (tableRead s .table) ≡ systemOf p s
-  system-in p = ap (system (policy p)) live-tasks
+-- the refusal by checks 1, 2 and those of the text: verdict's where nothing is unfit, the others' by what their buffer has to be
+abbrev pub refusalOf : ℕ → Bool → List ℕ → Refusal
+refusalOf p unfit text = check 1 (policyWrong p) (check 2 unfit (tableRead text .refusal))
 
--- as the code holds it
-module _ (s : List ℕ) {g : TableRead} (read : g ≡ tableRead s) (fine : g .refusal .number ≡ 0) where
-  fine-read : tableRead s .refusal .number ≡ 0
-  fine-read = rw read at fine
+refusal-admitted : (p : ℕ) (b : Bool) (s : List ℕ) → refusalOf p b s ≡ admitted p b s .refusal
+unfolding admitted
+refusal-admitted p b s = test (policyWrong p) (λ e. rw e) (λ e. rw e (test b (λ k. rw k) (λ k. rw k)))
 
-  pub sound-read : Sound (g .table)
-  sound-read = rw read (sound s fine-read)
+table-admitted : (p : ℕ) (b : Bool) (s : List ℕ) → admitted p b s .refusal .number ≡ 0 → (b ≡ false) × (admitted p b s ≡ tableRead s)
+unfolding admitted
+table-admitted p b s h = test (policyWrong p)
+    (λ e. absurd (omega (arith, rw e at h)))
+    (λ e. test b (λ k. absurd (omega (arith, rw (e, k) at h))) (λ k. (k, rw (e, k))))
 
-  pub system-read : (p : ℕ) → systemIn p (g .table) ≡ systemOf p s
-  system-read p = rw read (system-in s fine-read p)
+-- what is admitted, as the code holds it: g
+module _ (p : ℕ) (b : Bool) (s : List ℕ) {g : TableRead} (e : g ≡ admitted p b s) where
+  pub refusal-in : refusalOf p b s ≡ g .refusal
+  refusal-in = refusal-admitted p b s ∙ ap (λ (r : TableRead). r .refusal) (sym e)
+
+  module _ (fine : g .refusal .number ≡ 0) where
+    pub none-in : refusalOf p b s .number ≡ 0
+    none-in = ap (λ (f : Refusal). f .number) refusal-in ∙ fine
+
+    pub fit-in : b ≡ false
+    fit-in = table-admitted p b s (rw e at fine) .0
+
+    read : g ≡ tableRead s
+    read = e ∙ table-admitted p b s (rw e at fine) .1
+
+    pub sound-in : Sound (g .table)
+    sound-in = rw read (sound s (rw read at fine))
+
+    pub tasks-in : live (g .table) ≡ tasksOf s
+    tasks-in = rw read (live-tasks s (rw read at fine))
+
+    pub system-in : systemIn p (g .table) ≡ systemOf p s
+    system-in = ap (system (policy p)) tasks-in

@@ -3,7 +3,7 @@
 -- remain. Up to the first miss the two bytes of a slot are the run's, and from there on 0 and 3.
 use mathlib.Core.Path.{_≡_, refl, sym, ap, _∙_}
 use mathlib.Core.Logic.{_≢_, inl}
-use mathlib.Core.Bool.{true, false}
+use mathlib.Core.Bool.{false}
 use mathlib.Core.List.{List, [], _∷_}
 use Prim.Native.Nat.{ℕ, zero, suc, _+_, _-_, _*_, _/_, _%_, _≤_, _<_, pred}
 use native.Mathlib.Omega.{arith}
@@ -19,7 +19,7 @@ use Rattle.rules.specs.declared.TableRead.{TableRead}
 use Rattle.rules.specs.Policies as policies
 use Rattle.rules.specs.Slots.{Choice, who, toLoad, run}
 use Rattle.rules.specs.Decided.{missedAt}
-use Rattle.rules.specs.Checks.{policyWrong, slotsWrong, slotsRefusal, tableRead}
+use Rattle.rules.specs.Checks.{slotsWrong}
 use Rattle.rules.specs.AsRun.{listed}
 use Rattle.rules.specs.Schedules.{idByte, kindByte, marks, written, Writes, ScheduleIs, AsRunIs}
 use Rattle.rules.specs.Table.{noRow}
@@ -27,9 +27,10 @@ use Rattle.rules.specs.Verdicts.{systemOf}
 use Rattle.theory.specs.AsRun.{listed-nothing}
 use Rattle.basics.specs.Cases.{test, le-case, clash}
 use Rattle.checker.specs.declared.machine.Stop.{Stop}
+use Rattle.checker.specs.Admitted.{admitted}
 use Rattle.checker.specs.Machine.{Sound, live, systemIn, choices, missAt, Went, PaintedRun}
 use Rattle.checker.specs.Paint.{Painted}
-use Rattle.checker.proofs.InHand.{sound-read, system-read}
+use Rattle.checker.proofs.InHand.{none-in, fit-in, sound-in, system-in}
 use Rattle.checker.proofs.Painted.{painted-none}
 use Rattle.checker.proofs.SoundTables.{id-in}
 
@@ -131,37 +132,21 @@ module _ (p : ℕ) (t : Table) (xs zs : List ℕ) {before mid : List ℕ} (f : R
 
 -- AS RUN, of what the code has found
 
-module _ (p : ℕ) (s xs zs before : List ℕ) where
-  -- a refusal writes nothing
-  as-run-refused : (f : Refusal) → slotsRefusal p (length before) s ≡ f → f .number ≢ 0 → AsRunIs p s xs zs before before (Refused (f .number) (f .place))
-  as-run-refused f e some = record { refused = λ h. (rw e, refl); filled = λ h. absurd (some (rw e at h)) }
+-- a refusal writes nothing
+pub writes-refused : {f g : Refusal} {y : policies.System} {c : ℕ → Choice} {before : List ℕ} → f ≡ g → g .number ≢ 0
+    → Writes f y c before before (Refused (g .number) (g .place))
+writes-refused e some = rw e (record { refused = λ h. (refl, refl); filled = λ h. absurd (some h) })
 
-  pub as-run-policy : policyWrong p ≡ true → AsRunIs p s xs zs before before (Refused 1 0)
-  as-run-policy e = as-run-refused (record { number = 1; place = 0 }) (rw e) (λ z. omega arith)
+module _ {p : ℕ} (s : List ℕ) {xs zs before mid : List ℕ} {g : TableRead} (e : g ≡ admitted p (slotsWrong (length before)) s) (fine : g .refusal .number ≡ 0)
+    {q : Stop} (went : Went p (g .table) xs zs 0 (length before / 2) q) (painted : PaintedRun p (g .table) xs zs 0 (0 + q .ran) before mid) where
+  pub as-run-filled : q .miss ≡ 0 → AsRunIs p s xs zs before mid Filled
+  as-run-filled m = writes-in xs zs (system-in p _ s e fine)
+      (writes-filled p (g .table) xs zs _ (none-in p _ s e fine) (slots-even (length before) (fit-in p _ s e fine)) q went painted m)
 
-  pub as-run-slots : policyWrong p ≡ false → slotsWrong (length before) ≡ true → AsRunIs p s xs zs before before (Refused 2 0)
-  as-run-slots e h = as-run-refused (record { number = 2; place = 0 }) (rw (e, h)) (λ z. omega arith)
-
-  module _ (policy : policyWrong p ≡ false) (slots : slotsWrong (length before) ≡ false) {g : TableRead} (read : g ≡ tableRead s) where
-    refusal : slotsRefusal p (length before) s ≡ g .refusal
-    refusal = rw (policy, slots) (ap (λ (r : TableRead). r .refusal) (sym read))
-
-    pub as-run-text : g .refusal .number ≢ 0 → AsRunIs p s xs zs before before (Refused (g .refusal .number) (g .refusal .place))
-    as-run-text some = as-run-refused (g .refusal) refusal some
-
-    module _ (fine : g .refusal .number ≡ 0) {mid : List ℕ} (q : Stop) (went : Went p (g .table) xs zs 0 (length before / 2) q)
-        (painted : PaintedRun p (g .table) xs zs 0 (0 + q .ran) before mid) where
-      none : slotsRefusal p (length before) s .number ≡ 0
-      none = ap (λ (f : Refusal). f .number) refusal ∙ fine
-
-      pub as-run-filled : q .miss ≡ 0 → AsRunIs p s xs zs before mid Filled
-      as-run-filled e = writes-in xs zs (system-read s read fine p)
-          (writes-filled p (g .table) xs zs _ none (slots-even (length before) slots) q went painted e)
-
-      pub as-run-missed : {after : List ℕ} (i : ℕ) → 0 < q .miss → i ≡ getD (g .table .rows) (q .miss - 1) noRow .id
-          → Painted (λ u. 0) (λ u. 3) (q .ran) (length before / 2) mid after → AsRunIs p s xs zs before after (Missed (q .ran) i)
-      as-run-missed i e its marked = writes-in xs zs (system-read s read fine p)
-          (writes-missed p (g .table) xs zs _ none (slots-even (length before) slots) q went painted (sound-read s read fine) i e its marked)
+  pub as-run-missed : {after : List ℕ} {i : ℕ} → 0 < q .miss → i ≡ getD (g .table .rows) (q .miss - 1) noRow .id
+      → Painted (λ u. 0) (λ u. 3) (q .ran) (length before / 2) mid after → AsRunIs p s xs zs before after (Missed (q .ran) i)
+  as-run-missed m its marked = writes-in xs zs (system-in p _ s e fine)
+      (writes-missed p (g .table) xs zs _ (none-in p _ s e fine) (slots-even (length before) (fit-in p _ s e fine)) q went painted (sound-in p _ s e fine) _ m its marked)
 
 -- THE SCHEDULE is as run with no list
 

@@ -1,3 +1,4 @@
+pub mod Admitted
 pub mod Paint
 pub mod Turns
 pub mod Machine

@@ -5,6 +5,7 @@ ghost use Rattle.rules.specs.Schedules.{ScheduleIs, AsRunIs};
 use rules::ScheduleReply;
 use rules::Verdict;
 
+mod admit;
 mod decide;
 mod look;
 mod machine;
@@ -15,13 +16,7 @@ mod turn;
 pub fn verdict(policy: u32, allowance: u64, text: &[u8]) -> Verdict
     ensures { λ r. ⌜ VerdictIs policy allowance (now (text .entry)) r ⌝ }
 {
-    if table::policy_wrong(policy) {
-        return Verdict::Refused {
-            number: 1,
-            place: 0,
-        };
-    }
-    let g = table::read_table(text);
+    let g = admit::admit(policy, false, text);
     let f = g.refusal;
     if f.number != 0 {
         return Verdict::Refused {
@@ -38,19 +33,7 @@ pub fn verdict(policy: u32, allowance: u64, text: &[u8]) -> Verdict
 pub fn responses(policy: u32, allowance: u64, text: &[u8], numbers: &mut [u32]) -> Verdict
     ensures { λ r. ⌜ ResponsesAre policy allowance (now (text .entry)) (now (numbers .entry)) (now (numbers .exit)) r ⌝ }
 {
-    if table::policy_wrong(policy) {
-        return Verdict::Refused {
-            number: 1,
-            place: 0,
-        };
-    }
-    if table::responses_wrong(numbers.len()) {
-        return Verdict::Refused {
-            number: 2,
-            place: 0,
-        };
-    }
-    let g = table::read_table(text);
+    let g = admit::admit(policy, table::responses_wrong(numbers.len()), text);
     let f = g.refusal;
     if f.number != 0 {
         return Verdict::Refused {
@@ -79,19 +62,7 @@ pub fn as_run(
 ) -> ScheduleReply
     ensures { λ r. ⌜ AsRunIs policy (now (text .entry)) (now (requests .entry)) (now (loadings .entry)) (now (slots .entry)) (now (slots .exit)) r ⌝ }
 {
-    if table::policy_wrong(policy) {
-        return ScheduleReply::Refused {
-            number: 1,
-            place: 0,
-        };
-    }
-    if table::slots_wrong(slots.len()) {
-        return ScheduleReply::Refused {
-            number: 2,
-            place: 0,
-        };
-    }
-    let g = table::read_table(text);
+    let g = admit::admit(policy, table::slots_wrong(slots.len()), text);
     let f = g.refusal;
     if f.number != 0 {
         return ScheduleReply::Refused {

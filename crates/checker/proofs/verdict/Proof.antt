@@ -1,47 +1,27 @@
--- `verdict` meets its contract: checks 1 and 3 to 13 in their order, and then what `decide` gives of the table read.
-use native.Mathlib.Omega.{arith}
+-- `verdict` meets its contract: the refusal of checks 1 and 3 to 13, or what `decide` gives of the table admitted.
 use borrow.Author.Needs.{needs}
-use Rattle.rules.specs.Checks.{policyWrong, tableRead}
-use Rattle.checker.proofs.InHand.{sound-read}
-use Rattle.checker.proofs.Replied.{fails, given, verdict-read, decided}
+use Rattle.checker.proofs.InHand.{refusal-in, sound-in}
+use Rattle.checker.proofs.Replied.{given, decided}
 use Rattle.checker.proofs.verdict.Statement.{statement}
 use Rattle.checker.proofs.verdict.Tie as tie
 
-policy-wrong-requires : tie.Need-policy-wrong-requires
-policy-wrong-requires c κs = search needs
+admit-requires : tie.Need-admit-requires
+admit-requires c κs = search needs
 
 returns : tie.Need-returns
-returns c =
-    let x = c .before .before .before .args in
-    given (fails 1 (policyWrong (x .policy)) (tableRead (x .text .now) .refusal) (c .before .policy-wrong .ensures) (c .if1 .taken)) (λ z. omega arith) (x .policy) (x .allowance) (x .text .now)
-
-read-table-requires : tie.Need-read-table-requires
-read-table-requires c κs = search needs
-
-returns-2 : tie.Need-returns-2
-returns-2 c =
-    let x = c .before .before .before .before .before .before .before .args in
-    let w = c .before .before .before .before .before .policy-wrong in
-    let g = c .before .before .before .read-table in
-    given (verdict-read (x .text .now) (g .ensures) (x .policy) (w .ensures) (c .before .before .before .before .if1 .left)) (c .if2 .taken) (x .policy) (x .allowance) (x .text .now)
+returns c = given (refusal-in _ _ _ (c .before .before .before .admit .ensures)) (c .if1 .taken) _ _ _
 
 decide-requires : tie.Need-decide-requires
-decide-requires c κs = sound-read (c .before .before .before .before .before .before .before .before .args .text .now) (c .before .before .before .before .read-table .ensures) (c .before .if2 .left)
+decide-requires c κs = sound-in _ _ _ (c .before .before .before .before .admit .ensures) (c .before .if1 .left)
 
-returns-3 : tie.Need-returns-3
-returns-3 c =
-    let x = c .before .before .before .before .before .before .before .before .before .args in
-    let w = c .before .before .before .before .before .before .before .policy-wrong in
-    let g = c .before .before .before .before .before .read-table in
-    decided (x .text .now) (g .ensures) (c .before .before .if2 .left) (x .policy) (x .allowance) (c .decide .ensures) (verdict-read (x .text .now) (g .ensures) (x .policy) (w .ensures) (c .before .before .before .before .before .before .if1 .left))
+returns-2 : tie.Need-returns-2
+returns-2 c = decided _ _ (c .before .before .before .before .before .admit .ensures) (c .before .before .if1 .left) (c .decide .ensures)
 
 pub verdict-spec : {M : Type 1} → statement M
 verdict-spec =
     tie.close
     (tie.spec
-    policy-wrong-requires
+    admit-requires
     returns
-    read-table-requires
-    returns-2
     decide-requires
-    returns-3)
+    returns-2)
