@@ -16,7 +16,7 @@ use Rattle.rules.specs.Checks.{check, policyWrong, tableRead}
 use Rattle.rules.specs.Policies.{policy, system}
 use Rattle.rules.specs.Verdicts.{tasksOf, systemOf}
 use Rattle.reordering.specs.Canonical.{canonical-rows, canonical-length, canonical-omax, canonical-hyper}
-use Rattle.reordering.specs.Passed.{Passed, passed, passed-canonical}
+use Rattle.reordering.specs.Passed.{Passed, PassedText, passed, passed-canonical}
 use Rattle.basics.specs.Cases.{test}
 use Rattle.checker.specs.Admitted.{admitted}
 use Rattle.checker.specs.Machine.{Sound, live, systemIn}
@@ -34,13 +34,6 @@ sound-rows rows p =
       omax = rw e (sym (canonical-omax rows));
       hyper = rw e (sym (canonical-hyper rows));
     }
-
-module _ (s : List ℕ) (fine : tableRead s .refusal .number ≡ 0) where
-  sound : Sound (tableRead s .table)
-  sound = rw (passed s fine .table) (sound-rows (rowsOf s) (passed s fine .rows))
-
-  live-tasks : live (tableRead s .table) ≡ tasksOf s
-  live-tasks = rw (passed s fine .table) (canonical-rows (rowsOf s) (passed s fine .rows .few))
 
 -- the refusal by checks 1, 2 and those of the text: verdict's where nothing is unfit, the others' by what their buffer has to be
 abbrev pub refusalOf : ℕ → Bool → List ℕ → Refusal
@@ -71,11 +64,14 @@ module _ (p : ℕ) (b : Bool) (s : List ℕ) {g : TableRead} (e : g ≡ admitted
     read : g ≡ tableRead s
     read = e ∙ table-admitted p b s (rw e at fine) .1
 
+    text-in : PassedText s
+    text-in = passed s (rw read at fine)
+
     pub sound-in : Sound (g .table)
-    sound-in = rw read (sound s (rw read at fine))
+    sound-in = rw (read, text-in .table) (sound-rows (rowsOf s) (text-in .rows))
 
     pub tasks-in : live (g .table) ≡ tasksOf s
-    tasks-in = rw read (live-tasks s (rw read at fine))
+    tasks-in = rw (read, text-in .table) (canonical-rows (rowsOf s) (text-in .rows .few))
 
     pub system-in : systemIn p (g .table) ≡ systemOf p s
     system-in = ap (system (policy p)) tasks-in
