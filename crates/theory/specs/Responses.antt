@@ -12,8 +12,8 @@ use Rattle.rules.specs.Decided.{Same}
 use Rattle.rules.specs.Verdicts.{response, Worst}
 use Rattle.basics.specs.Cases.{le-case, clash}
 use Rattle.basics.specs.Search.{lowest-below, lowest-holds, lowest-top, lowest-same, most, most-top, most-at}
-use Rattle.theory.specs.Times.{Quick, Short, Turn, released-again, released-first, released-alone, released-before, period-top}
-use Rattle.theory.specs.Runs.{unreleased, keeps, full, done-sooner, finishes}
+use Rattle.theory.specs.Times.{Short, Turn, released-again, released-first, released-alone, released-before, period-top}
+use Rattle.theory.specs.Runs.{unreleased, keeps, full}
 use Rattle.theory.specs.Repetition.{done-same, same-on}
 
 pub response-some : (y : System) (c : ℕ → Choice) (i r : ℕ) → 0 < response y c i r
