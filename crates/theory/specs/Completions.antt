@@ -2,7 +2,6 @@
 -- task that has the slots, and that only at their end. So a job that is completed over the jump is the newest of that task, and its
 -- response is the end of the jump less its release: a loop that keeps one number a task holds the worst at the horizon.
 -- A job that is not complete within its period has no completion, and is not counted; where nothing is missed there is none.
--- Assumes nothing.
 use mathlib.Core.Path.{_≡_, sym, _∙_}
 use mathlib.Core.Logic.{_⊎_, inl, inr}
 use mathlib.Core.Bool.{true, false}

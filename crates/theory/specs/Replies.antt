@@ -4,7 +4,7 @@ use mathlib.Core.Path.{_≡_, refl, sym, ap, _∙_}
 use mathlib.Core.Logic.{_≢_, inl, inr}
 use mathlib.Core.Bool.{false}
 use mathlib.Core.List.{List}
-use Prim.Native.Nat.{ℕ, zero, suc, _+_, _-_, _≤_, _<_, pred}
+use Prim.Native.Nat.{ℕ, zero, suc, _+_, _-_, _*_, _≤_, _<_, pred}
 use native.Mathlib.Omega.{arith}
 use lib.ListN.{getD, length}
 use lib.Seq.{ext-getD, getD-drop}
@@ -12,13 +12,22 @@ use Rattle.rules.specs.declared.Refusal.{Refusal}
 use Rattle.rules.specs.declared.Verdict.{Verdict}
 use Rattle.rules.specs.declared.Verdict.the-variants.{Accepted, Missed, Undecided, Refused}
 use Rattle.rules.specs.Policies.{System}
-use Rattle.rules.specs.Slots.{onTime, run, stated}
+use Rattle.rules.specs.Slots.{due, onTime, run, stated}
 use Rattle.rules.specs.Decided.{missedAt, NeverMissed, SlotsNeeded}
 use Rattle.rules.specs.Verdicts.{missedId, plain, Decides, Replies, Hold, Leaves, ResponsesAre}
-use Rattle.basics.specs.Cases.{le-case, eq-case}
+use Rattle.basics.specs.Cases.{test, le-case, eq-case}
 use Rattle.theory.specs.Order.{First, pick-first}
+use Rattle.theory.specs.Runs.{unreleased}
+use Rattle.theory.specs.Jump.{pick-none}
 use Rattle.theory.specs.Decides.{miss-one, settles-one, slots-one}
 use Rattle.theory.specs.Responses.{worst-one}
+
+none-at-start : (y : System) → missedAt y (stated y) 0 ≡ 0
+none-at-start y = pick-none (λ i. 0) (onTime y 0 (run y (stated y) 0)) (y .tasks)
+    (λ i k. test (due (y .row i) 0) (λ e. rw e (unreleased y (stated y) 0 i (omega arith))) (λ e. rw e refl))
+
+horizon : (o k h : ℕ) → 0 < h → 0 < o + suc k * h
+horizon o k h some = omega arith
 
 module _ (y : System) (o h : ℕ) where
   -- ACCEPTED exactly where no job ever misses, given allowance enough
@@ -41,6 +50,13 @@ module _ (y : System) (o h : ℕ) where
   exceeds-undecided a n s k (Missed t i) d = absurd (omega (arith, d .1, slots-one y o h plain t n (inl (d .0)) s))
   exceeds-undecided a n s k Undecided d = refl
   exceeds-undecided a n s k (Refused m p) d = absurd d
+
+  -- "allowance 0 leaves every valid table undecided": at 0 every task is complete, and the least horizon is above 0
+  pub nothing-undecided : 0 < h → (r : Verdict) → Decides y o h 0 r → r ≡ Undecided
+  nothing-undecided some (Accepted n) d = absurd (omega (arith, d .1, d .0 .number, horizon o (d .0 .k) h some))
+  nothing-undecided some (Missed t i) d = let e : t ≡ 0 = omega (arith, d .1) in absurd (d .0 .misses (rw e (none-at-start y)))
+  nothing-undecided some Undecided d = refl
+  nothing-undecided some (Refused n p) d = absurd d
 
   -- TWO VERDICTS are equal
   decides-one : (a : ℕ) (r s : Verdict) → Decides y o h a r → Decides y o h a s → r ≡ s
