@@ -1,10 +1,4 @@
-pub mod InHand
-pub mod Jobs
-pub mod Legs
-pub mod Marks
-pub mod Painted
-pub mod Pass
-pub mod Replied
-pub mod SoundTables
-pub mod Stretch
-pub mod Written
+mod SoundTables
+mod Painted
+mod Replied
+mod InHand

@@ -2,17 +2,16 @@
 use mathlib.Core.Path.{_≡_}
 use mathlib.Core.Bool.{Bool, true, false}
 use mathlib.Core.List.{List}
-use Prim.Native.Nat.{ℕ, _+_, _-_, _<_}
+use Prim.Native.Nat.{ℕ, _<_}
 use lib.ListN.{getD, drop, length}
 use Rattle.rules.specs.declared.Table.{Table}
 use Rattle.rules.specs.declared.Verdict.{Verdict}
 use Rattle.rules.specs.declared.Verdict.the-variants.{Accepted, Missed, Undecided, Refused}
-use Rattle.rules.specs.Table.{noRow, omax, hyper}
+use Rattle.rules.specs.Table.{omax, hyper}
 use Rattle.rules.specs.Verdicts.{Decides, Worst}
 use Rattle.checker.specs.declared.machine.State.{State}
-use Rattle.checker.specs.declared.machine.Stop.{Stop}
 use Rattle.checker.specs.declared.decide.Outcome.{Outcome}
-use Rattle.checker.specs.Machine.{live, systemIn, jobOf}
+use Rattle.checker.specs.Machine.{live, systemIn, worstIn}
 
 abbrev pub acceptedOf : Verdict → Bool
 acceptedOf (Accepted n) = true
@@ -20,18 +19,13 @@ acceptedOf (Missed t i) = false
 acceptedOf Undecided = false
 acceptedOf (Refused n p) = false
 
--- the end of a leg
-pub record Ended (t : Table) (from : ℕ) (q : Stop) (r : Outcome) : Type 0 where
-  pub missed : 0 < q .miss → r .verdict ≡ Missed (from + q .ran) (getD (t .rows) (q .miss - 1) noRow .id)
-  pub out : q .miss ≡ 0 → r .verdict ≡ Undecided
-
 -- the reply of a table in hand, and the worst responses where it is accepted
 pub record Outcomes (p : ℕ) (t : Table) (a : ℕ) (r : Outcome) : Type 0 where
   pub decides : Decides (systemIn p t) (omax (live t)) (hyper (live t)) a (r .verdict)
-  pub worst : (n : ℕ) → r .verdict ≡ Accepted n → (i : ℕ) → i < t .count → Worst (systemIn p t) i (jobOf (r .state) i .worst)
+  pub worst : (n : ℕ) → r .verdict ≡ Accepted n → (i : ℕ) → i < t .count → Worst (systemIn p t) i (worstIn (r .state) i)
 
 -- the numbers written
 pub record Wrote (rows : ℕ) (s : State) (before after : List ℕ) : Type 0 where
   pub size : length after ≡ length before
-  pub worst : (i : ℕ) → i < rows → getD after i 0 ≡ jobOf s i .worst
+  pub worst : (i : ℕ) → i < rows → getD after i 0 ≡ worstIn s i
   pub rest : drop rows after ≡ drop rows before

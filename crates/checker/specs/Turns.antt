@@ -1,58 +1,38 @@
--- What the functions that look at a row and that spend slots give, on numbers. Means of proof.
-use mathlib.Core.Bool.{Bool, false, cond}
+-- What the functions of a turn of the loop give, on numbers. Means of proof.
+use mathlib.Core.Bool.{Bool, cond}
 use mathlib.Core.List.{List}
-use Prim.Native.Nat.{ℕ}
-use lib.Dec.{eqb, ltb}
+use Prim.Native.Nat.{ℕ, _+_, _*_, min}
+use lib.Dec.{eqb}
 use lib.ListN.{getD, length}
 use Rattle.rules.specs.declared.Row.{Row}
+use Rattle.rules.specs.declared.Executed.{Executed}
 use Rattle.rules.specs.declared.Loading.{Loading}
-use Rattle.slots.specs.declared.Job.{Job}
-use Rattle.slots.specs.Jobs.{usedOf, releasedOf, joinedOf, lateOf, missedOf, firstOf, reachOf, continuesOf, delayOf, begunOf, roomOf, servedOf}
-use Rattle.checker.specs.declared.look.Found.{Found}
-use Rattle.checker.specs.declared.look.Looked.{Looked}
-use Rattle.checker.specs.declared.turn.Spent.{Spent}
+use Rattle.slots.specs.Jobs.{never, usedOf, keyOf, openOf, delayOf, begunOf, beginsOf}
+use Rattle.checker.specs.declared.join.Joined.{Joined}
+use Rattle.checker.specs.declared.turn.ToLoad.{ToLoad}
 
-abbrev pub noneFound : ℕ → Found
-noneFound asked = record { miss = 0; best = record { at = 0; key = 0 }; reach = 4294967295; asked = asked }
+-- the key of row i: by the policy, then by the row
+abbrev pub rankOf : ℕ → Row → ℕ → ℕ → ℕ
+rankOf p r i due = keyOf p r due * 16 + i
 
--- the job after it, or a new one, joined
-abbrev pub joinedBy : Row → Job → ℕ → List ℕ → Found → Job
-joinedBy r j lag xs f = joinedOf r j lag (getD xs (f .asked) (r .wcet))
-
-abbrev pub lookedOf : ℕ → Row → Job → ℕ → ℕ → List ℕ → Found → Looked
-lookedOf p r j lag at xs f =
+abbrev pub joinedOf : ℕ → Row → ℕ → ℕ → ℕ → Joined
+joinedOf p r i time ask =
     record {
-      job = joinedBy r j lag xs f;
-      found = record {
-        miss = missedOf (lateOf r j lag) at (f .miss);
-        best = firstOf p r (joinedBy r j lag xs f) at (f .best);
-        reach = reachOf r (joinedBy r j lag xs f) (f .reach);
-        asked = usedOf (releasedOf j lag) (f .asked) (length xs);
-      };
+      need = record { 0 = min ask (r .wcet) };
+      release = time + r .period;
+      due = openOf (record { 0 = min ask (r .wcet) }) (time + r .deadline);
+      key = openOf (record { 0 = min ask (r .wcet) }) (rankOf p r i (time + r .deadline));
     }
 
-abbrev pub clipOf : ℕ → ℕ → ℕ
-clipOf remain d = cond (eqb d 0) 1 (cond (ltb remain d) remain d)
+abbrev pub topOf : ℕ → ℕ → ℕ → ℕ
+topOf next time rows = cond (eqb next time) rows 0
 
-abbrev pub beginsOf : Bool → Loading → Bool
-beginsOf again d = cond again false (ltb 0 (d .0))
+abbrev pub fromOf : ℕ → ℕ → ℕ
+fromOf next time = cond (eqb next time) never next
 
--- the loading to do
-abbrev pub loadOf : Row → Job → ℕ → ℕ → Loading → ℕ → List ℕ → Loading
-loadOf r j at last left begun zs = begunOf (continuesOf r j last at) left (getD zs begun (delayOf r j .0)) (delayOf r j)
-
-abbrev pub spentOf : Row → Job → ℕ → ℕ → Loading → ℕ → List ℕ → ℕ → ℕ → Spent
-spentOf r j at last left begun zs reach remain =
-    cond (eqb at 0)
-    (record {
-      slots = clipOf remain reach;
-      load = record { 0 = 0 };
-      served = record { job = j; last = 0; left = record { 0 = 0 } };
-      begun = begun;
-    })
-    (record {
-      slots = roomOf j (loadOf r j at last left begun zs) (clipOf remain reach);
-      load = loadOf r j at last left begun zs;
-      served = servedOf (roomOf j (loadOf r j at last left begun zs) (clipOf remain reach)) r j at (loadOf r j at last left begun zs);
-      begun = usedOf (beginsOf (continuesOf r j last at) (delayOf r j)) begun (length zs);
-    })
+abbrev pub loadOf : Row → Executed → Bool → Loading → ℕ → List ℕ → ToLoad
+loadOf r e again left begun zs =
+    record {
+      slots = begunOf again left (getD zs begun (delayOf r e .0)) (delayOf r e);
+      begun = usedOf (beginsOf again (delayOf r e)) begun (length zs);
+    }

@@ -7,8 +7,10 @@ use rules::Verdict;
 
 mod admit;
 mod decide;
-mod look;
+mod join;
+mod least;
 mod machine;
+mod marks;
 mod paint;
 mod turn;
 
@@ -72,14 +74,21 @@ pub fn as_run(
     }
     let t = g.table;
     let n = slots.len() / 2;
-    let s = machine::begin(t);
-    let q = machine::leg(t, policy, s, 0, n as u64, requests, loadings, slots);
+    let q = machine::run(
+        t,
+        policy,
+        slots::NEVER,
+        n as u64,
+        requests,
+        loadings,
+        slots,
+    );
     let m = q.miss;
     if 0 < m {
-        let from = q.ran as usize;
+        let from = q.time as usize;
         paint::fill(slots, from, n, 0, 3);
         return ScheduleReply::Missed {
-            time: q.ran,
+            time: q.time,
             id: machine::id_of(t, m),
         };
     }

@@ -1,33 +1,43 @@
 // The loop, from event to event. It serves all four replies: verdict and responses lend it no bytes and no lists.
 ghost use mathlib.Core.Path.{_≡_};
+ghost use mathlib.Core.Logic.{_⊎_};
 ghost use mathlib.Core.List.{List};
-ghost use Prim.Native.Nat.{ℕ, _+_, _-_, _≤_};
+ghost use Prim.Native.Nat.{ℕ, _-_, _≤_};
 ghost use lib.ListN.{getD};
 ghost use Rattle.rules.specs.Table.{noRow};
-ghost use Rattle.checker.specs.Turns.{noneFound};
-ghost use Rattle.checker.specs.Machine.{Sound, At, missAt, Went, PaintedRun};
-use crate::look::Found;
+ghost use Rattle.slots.specs.Jobs.{never};
+ghost use Rattle.checker.specs.Machine.{Sound, At, firstDue, Ran, PaintedRun};
+use crate::marks::Mark;
 use rules::Executed;
 use rules::Loading;
 use rules::Table;
-use slots::Best;
-use slots::Job;
 
-// The state at a time, before jobs join. Each job's countdown runs lag slots behind. asked and begun are places in the lists.
+// The state at a time, before jobs join. Of each task the time of the next release; of its newest job, while it is incomplete, the
+// deadline and the key by which it goes first, and NEVER once it is complete; what it is to have and what it has executed; the
+// longest response of the task's jobs. Then the least of releases, deadlines and keys. asked and begun are places in the lists.
 pub struct State {
-    pub jobs: [Job; 16],
+    pub release: [u64; 16],
+    pub due: [u64; 16],
+    pub key: [u64; 16],
+    pub need: [Executed; 16],
+    pub executed: [Executed; 16],
+    pub worst: [u32; 16],
+    pub next: u64,
+    pub soonest: u64,
+    pub best: u64,
     pub last: usize,
     pub left: Loading,
-    pub lag: u32,
     pub asked: usize,
     pub begun: usize,
 }
 
-// Where a leg stopped: the missed task, 0 for none, i + 1 for row i; and the slots that it ran.
+// Where a run stopped, and why: at a miss, which is of row i if it is i + 1; or at a mark with the state of the mark before; or, with
+// neither, at its end.
 pub struct Stop {
     pub state: State,
+    pub time: u64,
     pub miss: usize,
-    pub ran: u64,
+    pub repeats: bool,
 }
 
 // The state at time 0.
@@ -35,46 +45,48 @@ pub fn begin(t: Table) -> State
     requires { ⌜ Sound t ⌝ }
     ensures { λ r. ⌜ ((p : ℕ) (xs zs : List ℕ) → At p t xs zs 0 r) ⌝ }
 {
-    let z = Job {
-        need: Executed(0),
-        executed: Executed(0),
-        until: 0,
-        worst: 0,
-    };
-    let mut jobs = [z; 16];
-    let mut i: usize = 0;
-    while i < Table::MAX_ROWS {
-        let r = t.rows[i];
-        jobs[i] = Job {
-            need: Executed(r.wcet),
-            executed: Executed(r.wcet),
-            until: r.offset,
-            worst: 0,
-        };
-        i += 1;
-    }
-    State {
-        jobs: jobs,
+    let never = [slots::NEVER; 16];
+    let none = [Executed(0); 16];
+    let zero = [0u32; 16];
+    let mut s = State {
+        release: never,
+        due: never,
+        key: never,
+        need: none,
+        executed: none,
+        worst: zero,
+        next: slots::NEVER,
+        soonest: slots::NEVER,
+        best: slots::NEVER,
         last: 0,
         left: Loading(0),
-        lag: 0,
         asked: 0,
         begun: 0,
+    };
+    let rows = t.count;
+    let mut i: usize = 0;
+    while i < rows {
+        let r = t.rows[i];
+        let e = Executed(r.wcet);
+        let o = r.offset as u64;
+        s.release[i] = o;
+        s.need[i] = e;
+        s.executed[i] = e;
+        s.next = slots::sooner(s.next, o);
+        i += 1;
     }
+    s
 }
 
-// The first missed: 0 for none, i + 1 for row i.
-fn overdue(t: Table, s: State) -> usize
-    requires { ⌜ Sound t ⌝ }
-    ensures { λ r. ⌜ r ≤ t .count ⌝ }
-    ensures { λ r. ⌜ ((p : ℕ) (xs zs : List ℕ) (u : ℕ) → At p t xs zs u s → r ≡ missAt p t xs zs u) ⌝ }
+// The first with its deadline at a time: 0 for none, i + 1 for row i.
+fn overdue(rows: usize, due: &[u64; 16], time: u64) -> usize
+    requires { ⌜ rows ≤ 16 ⌝ }
+    ensures { λ r. ⌜ r ≡ firstDue rows (now (due .entry)) time ⌝ }
 {
-    let rows = t.count;
-    let lag = s.lag;
     let mut miss: usize = 0;
     let mut i: usize = 0;
     while i < rows {
-        miss = slots::missed(slots::late(t.rows[i], s.jobs[i], lag), i + 1, miss);
+        miss = slots::missed(due[i] == time, i + 1, miss);
         i += 1;
     }
     miss
@@ -99,96 +111,150 @@ pub fn id_of(t: Table, at: usize) -> u32
     r.id
 }
 
-// Before any row is looked at.
-fn nothing(asked: usize) -> Found
-    ensures { λ f. ⌜ f ≡ noneFound asked ⌝ }
-{
-    Found {
-        miss: 0,
-        best: Best { at: 0, key: 0 },
-        reach: 4294967295,
-        asked: asked,
-    }
-}
-
-// n slots from slot `from` on, from the state s0: until a deadline is missed, which is tested before each slot and after the last.
-pub fn leg(
+// The run up to `end`: it stops before at a miss; and, where a first mark is given, which is Omax then, at a mark with the state of
+// the mark before. Deadlines are tested first, and a mark's state is that before jobs join.
+pub fn run(
     t: Table,
     policy: u32,
-    s0: State,
-    from: u64,
-    n: u64,
+    first: u64,
+    end: u64,
     requests: &[u32],
     loadings: &[u32],
     slots: &mut [u8],
 ) -> Stop
     requires { ⌜ Sound t ⌝ }
-    requires { ⌜ At policy t (now requests) (now loadings) from s0 ⌝ }
-    requires { ⌜ from + n ≤ 18446744073709551615 ⌝ }
-    ensures { λ r. ⌜ Went policy t (now (requests .entry)) (now (loadings .entry)) from n r ⌝ }
-    ensures { λ r. ⌜ PaintedRun policy t (now (requests .entry)) (now (loadings .entry)) from (from + r .ran) (now (slots .entry)) (now (slots .exit)) ⌝ }
+    requires { ⌜ (first ≡ never) ⊎ (first ≡ t .omax) ⌝ }
+    requires { ⌜ end ≤ 281474976710656 ⌝ }
+    ensures { λ r. ⌜ Ran policy t (now (requests .entry)) (now (loadings .entry)) first end r ⌝ }
+    ensures { λ r. ⌜ PaintedRun policy t (now (requests .entry)) (now (loadings .entry)) 0 (r .time) (now (slots .entry)) (now (slots .exit)) ⌝ }
 {
     let rows = t.count;
-    let mut s = s0;
-    let mut k: u64 = 0;
-    while k < n {
-        let lag = s.lag;
-        let mut f = nothing(s.asked);
-        let mut i: usize = 0;
-        while i < rows {
-            let w = crate::look::look(policy, t.rows[i], s.jobs[i], lag, i + 1, requests, f);
-            let o = w.job;
-            s.jobs[i] = o;
-            f = w.found;
-            i += 1;
-        }
-        if 0 < f.miss {
+    let blocks = crate::least::blocks(rows);
+    let hyper = t.hyper as u64;
+    let mut s = begin(t);
+    let mut was = crate::marks::before();
+    let mut mark = first;
+    let mut time: u64 = 0;
+    loop {
+        if s.soonest == time {
+            let m = overdue(rows, &s.due, time);
             return Stop {
                 state: s,
-                miss: f.miss,
-                ran: k,
+                time: time,
+                miss: m,
+                repeats: false,
             };
         }
-        let best = f.best;
-        let at = best.at;
-        let p = place(at);
+        if mark == time {
+            let e = s.executed;
+            let l = s.left;
+            let here = Mark {
+                executed: e,
+                last: s.last,
+                left: l,
+            };
+            if crate::marks::same(rows, here, was) {
+                return Stop {
+                    state: s,
+                    time: time,
+                    miss: 0,
+                    repeats: true,
+                };
+            }
+            was = here;
+            mark = time + hyper;
+            continue;
+        }
+        if time == end {
+            return Stop {
+                state: s,
+                time: time,
+                miss: 0,
+                repeats: false,
+            };
+        }
+        let top = crate::join::top(s.next, time, rows);
+        let mut next = crate::join::from(s.next, time);
+        let mut i: usize = 0;
+        while i < top {
+            let release = s.release[i];
+            if release == time {
+                let r = t.rows[i];
+                let ask = slots::entry(requests, s.asked, r.wcet);
+                let j = crate::join::join(policy, r, i, time, ask);
+                let n = j.need;
+                let z = Executed(0);
+                s.need[i] = n;
+                s.executed[i] = z;
+                s.release[i] = j.release;
+                s.due[i] = j.due;
+                s.key[i] = j.key;
+                s.soonest = slots::sooner(s.soonest, j.due);
+                s.best = slots::sooner(s.best, j.key);
+                s.asked = slots::used(true, s.asked, requests.len());
+                next = slots::sooner(next, j.release);
+                i += 1;
+                continue;
+            }
+            next = slots::sooner(next, release);
+            i += 1;
+        }
+        s.next = next;
+        let stop = slots::sooner(slots::sooner(end, mark), slots::sooner(next, s.soonest));
+        if s.best == slots::NEVER {
+            crate::paint::stretch(
+                slots,
+                time as usize,
+                slots::span(time, stop) as usize,
+                0,
+                0,
+                0,
+            );
+            let none = Loading(0);
+            s.last = 0;
+            s.left = none;
+            time = stop;
+            continue;
+        }
+        let p = (s.best % 16) as usize;
         let r = t.rows[p];
+        let e = s.executed[p];
+        let n = s.need[p];
         let left = s.left;
-        let d = crate::turn::spend(
-            r,
-            s.jobs[p],
-            at,
-            s.last,
-            left,
-            s.begun,
-            loadings,
-            f.reach,
-            n - k,
-        );
-        let load = d.load;
+        let again = slots::continues(s.last, p + 1, s.release[p], time + r.period as u64);
+        let l = crate::turn::load(r, e, again, left, s.begun, loadings);
+        let load = l.slots;
+        let full = crate::turn::finish(time, load, n, e);
+        let d = slots::span(time, slots::sooner(stop, full));
         crate::paint::stretch(
             slots,
-            (from + k) as usize,
-            d.slots as usize,
-            at,
+            time as usize,
+            d as usize,
+            p + 1,
             r.id,
             load.0 as usize,
         );
-        let w = d.served;
-        let job = w.job;
-        let rest = w.left;
-        s.jobs[p] = job;
-        s.last = w.last;
-        s.left = rest;
-        s.lag = d.slots;
-        s.asked = f.asked;
-        s.begun = d.begun;
-        k += d.slots as u64;
-    }
-    let m = overdue(t, s);
-    Stop {
-        state: s,
-        miss: m,
-        ran: k,
+        s.begun = l.begun;
+        if stop < full {
+            let x = slots::worked(n, e, slots::minus(d, load.0));
+            let y = Loading(slots::minus(load.0, d));
+            s.executed[p] = x;
+            s.last = p + 1;
+            s.left = y;
+            time = stop;
+            continue;
+        }
+        let none = Loading(0);
+        let took = slots::minus(r.period, slots::span(full, s.release[p]));
+        let gone = s.due[p];
+        s.executed[p] = n;
+        s.worst[p] = slots::greater(s.worst[p], took);
+        s.last = 0;
+        s.left = none;
+        s.due[p] = slots::NEVER;
+        s.key[p] = slots::NEVER;
+        s.soonest = crate::least::without(blocks, &s.due, gone, s.soonest);
+        s.best = crate::least::least(blocks, &s.key);
+        time = full;
     }
 }

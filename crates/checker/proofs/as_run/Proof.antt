@@ -1,65 +1,53 @@
--- `as_run`: a refusal, which writes nothing; else a leg from time 0 and, after a miss, the marks.
-use native.Mathlib.Omega.{arith}
 use borrow.Author.Needs.{needs}
-use Rattle.checker.proofs.InHand.{refusal-in, sound-in}
-use Rattle.checker.proofs.Written.{writes-refused, as-run-filled, as-run-missed}
 use Rattle.checker.proofs.as_run.Statement.{statement}
 use Rattle.checker.proofs.as_run.Tie as tie
+use Rattle.checker.proofs.as_run.Reads as reads
+use Rattle.checker.proofs.as_run.Lts as lts
+use Rattle.checker.proofs.admit.admit.Reads as admit-reads
+use Rattle.checker.proofs.machine.id_of.Reads as id-of-reads
+use Rattle.checker.proofs.machine.run.Reads as run-reads
+use Rattle.checker.proofs.paint.fill.Reads as fill-reads
+use Rattle.table.proofs.slots_wrong.Reads as slots-wrong-reads
 
+-- src/lib.rt:67:34
 slots-wrong-requires : tie.Need-slots-wrong-requires
 slots-wrong-requires c κs = search needs
 
+-- src/lib.rt:67:9
 admit-requires : tie.Need-admit-requires
 admit-requires c κs = search needs
 
+-- src/lib.rt:70:9
 returns : tie.Need-returns
-returns c =
-    let a = c .before .before .before in
-    let e = rw (a .before .slots-wrong .ensures) at (a .admit .ensures) in
-    writes-refused (refusal-in _ _ _ e) (c .if1 .taken)
+returns c = ?
 
-begin-requires : tie.Need-begin-requires
-begin-requires c κs = sound-in _ _ _ (c .before .before .before .before .admit .ensures) (c .before .if1 .left)
+-- src/lib.rt:77:9
+run-requires : tie.Need-run-requires
+run-requires c κs = ?
 
-leg-requires : tie.Need-leg-requires
-leg-requires c κs =
-    let fine = c .before .before .before in
-    let a = fine .before .before .before in
-    let start = a .before .before .before .before .before .before in
-    (sound-in _ _ _ (a .admit .ensures) (fine .if1 .left), (c .before .begin .ensures _ _ _, omega (arith, start .good .1 .1 .1 .1 .0)))
-
+-- src/lib.rt:89:9
 fill-requires : tie.Need-fill-requires
 fill-requires c κs = search needs
 
+-- src/lib.rt:92:17
 id-of-requires : tie.Need-id-of-requires
-id-of-requires c κs =
-    let went = c .before .before .before .before .before .before .before in
-    let fine = went .before .before .before .before in
-    let s = sound-in _ _ _ (fine .before .before .before .admit .ensures) (fine .if1 .left) in
-    omega (arith, went .leg .ensures .0 .task, s .passed .few, s .count)
+id-of-requires c κs = ?
 
+-- src/lib.rt:90:9
 same-length : tie.Need-same-length
 same-length c = search needs
 
+-- src/lib.rt:90:9
 returns-2 : tie.Need-returns-2
-returns-2 c =
-    let miss = c .before .before .before .before .before in
-    let went = miss .before .before .before in
-    let fine = went .before .before .before .before in
-    let a = fine .before .before .before in
-    let e = rw (a .before .slots-wrong .ensures) at (a .admit .ensures) in
-    as-run-missed _ e (fine .if1 .left) (went .leg .ensures .0) (went .leg .ensures .1) (miss .if2 .taken) (c .id-of .ensures) (c .before .before .before .fill .ensures)
+returns-2 c = ?
 
+-- src/lib.rt:58:1
 same-length-2 : tie.Need-same-length-2
 same-length-2 c = search needs
 
+-- src/lib.rt:58:1
 returns-3 : tie.Need-returns-3
-returns-3 c =
-    let went = c .before .before .before in
-    let fine = went .before .before .before .before in
-    let a = fine .before .before .before in
-    let e = rw (a .before .slots-wrong .ensures) at (a .admit .ensures) in
-    as-run-filled _ e (fine .if1 .left) (went .leg .ensures .0) (went .leg .ensures .1) (omega arith)
+returns-3 c = ?
 
 pub as-run-spec : {M : Type 1} → statement M
 as-run-spec =
@@ -68,8 +56,7 @@ as-run-spec =
     slots-wrong-requires
     admit-requires
     returns
-    begin-requires
-    leg-requires
+    run-requires
     fill-requires
     id-of-requires
     same-length

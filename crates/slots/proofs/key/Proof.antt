@@ -1,4 +1,4 @@
--- Rests on the tests on the policy and on what `since` returns, which is below 4294967296: neither the sum nor the difference wraps.
+-- Rests on the tests on the policy, which are the definition's.
 use borrow.Author.Tests.{eq-eqb, ne-eqb}
 use borrow.Author.Needs.{needs}
 use Rattle.slots.proofs.key.Statement.{statement}
@@ -22,37 +22,8 @@ cast-result-3 c = search needs
 returns-3 : tie.Need-returns-3
 returns-3 c = search (needs, eq-eqb, ne-eqb)
 
-since-requires : tie.Need-since-requires
-since-requires c κs = search needs
-
-cast-result-4 : tie.Need-cast-result-4
-cast-result-4 c = search needs
-
-add-result : tie.Need-add-result
-add-result c = search needs
-
-cast-result-5 : tie.Need-cast-result-5
-cast-result-5 c = search needs
-
-sub-result : tie.Need-sub-result
-sub-result c = search needs
-
 returns-4 : tie.Need-returns-4
-returns-4 c = simp (ne-eqb _ _ (c .before .before .before .before .if1 .left), ne-eqb _ _ (c .before .before .before .if2 .left), ne-eqb _ _ (c .before .before .if3 .left), c .before .since .ensures)
+returns-4 c = simp (ne-eqb _ _ (c .before .before .if1 .left), ne-eqb _ _ (c .before .if2 .left), ne-eqb _ _ (c .if3 .left))
 
 pub key-spec : {M : Type 1} → statement M
-key-spec =
-    tie.close
-    (tie.spec
-    cast-result
-    returns
-    cast-result-2
-    returns-2
-    cast-result-3
-    returns-3
-    since-requires
-    cast-result-4
-    add-result
-    cast-result-5
-    sub-result
-    returns-4)
+key-spec = tie.close (tie.spec cast-result returns cast-result-2 returns-2 cast-result-3 returns-3 returns-4)

@@ -1,62 +1,53 @@
--- Rests on the loop's invariant: the numbers passed are written, and those from `rows` on are as they were.
-use mathlib.Core.Path.{_≡_, refl, _∙_}
-use Prim.Native.Nat.{ℕ, _-_, _≤_, _<_}
-use native.Mathlib.Omega.{arith}
-use borrow.Author.Count.{below-more}
-use borrow.Author.Needs.{needs}
-use lib.ListN.{length, getD, drop, set, length-set}
-use lib.Seq.{getD-set-same, getD-set-other, drop-set-lt}
-use Rattle.checker.specs.Machine.{jobOf}
 use Rattle.checker.proofs.decide.write_worst.Statement.{statement}
 use Rattle.checker.proofs.decide.write_worst.Tie as tie
+use Rattle.checker.proofs.decide.write_worst.Reads as reads
+use Rattle.checker.proofs.decide.write_worst.Lts as lts
 
 abbrev Inv-loop : tie.InvT-loop
-Inv-loop rows numbers₀ s i₀ numbers i = (i ≤ rows) × (length numbers ≡ length numbers₀) × ((k : ℕ) → k < i → getD numbers k 0 ≡ jobOf s k .worst) × (drop rows numbers ≡ drop rows numbers₀)
+Inv-loop rows numbers₀ s i₀ numbers i = ?
 
 abbrev μ-loop : tie.MeasureT-loop
-μ-loop rows numbers₀ s i₀ numbers i = rows - i
+μ-loop rows numbers₀ s i₀ numbers i = ?
 
+-- src/decide.rt:87:5
 loop-holds : tie.Need-loop-holds Inv-loop μ-loop
-loop-holds c = (search needs, refl, λ k h. absurd (omega arith), refl)
+loop-holds c = ?
 
-mul-j : tie.Need-mul-j Inv-loop μ-loop
-mul-j c = search needs
-
-element-copy-out-j : tie.Need-element-copy-out-j Inv-loop μ-loop
-element-copy-out-j c = search needs
-
+-- src/decide.rt:88:22
 mul-numbers : tie.Need-mul-numbers Inv-loop μ-loop
-mul-numbers c = search needs
+mul-numbers c = ?
 
+-- src/decide.rt:88:22
+element-copy-out-numbers : tie.Need-element-copy-out-numbers Inv-loop μ-loop
+element-copy-out-numbers c = ?
+
+-- src/decide.rt:88:9
+mul-numbers-2 : tie.Need-mul-numbers-2 Inv-loop μ-loop
+mul-numbers-2 c = ?
+
+-- src/decide.rt:88:9
 slice-write-numbers : tie.Need-slice-write-numbers Inv-loop μ-loop
-slice-write-numbers c = search needs
+slice-write-numbers c = ?
 
+-- src/decide.rt:89:9
 add-i : tie.Need-add-i Inv-loop μ-loop
-add-i c = search needs
+add-i c = ?
 
+-- src/decide.rt:87:5
 loop-less : tie.Need-loop-less Inv-loop μ-loop
-loop-less c = search needs
+loop-less c = ?
 
+-- src/decide.rt:87:5
 loop-again : tie.Need-loop-again Inv-loop μ-loop
-loop-again c =
-    let at = c .before .before .loop in
-    let s = c .before .before .before .args .t2 in
-    let here : at .i < length (at .numbers) = omega arith in (
-      search needs,
-      simp length-set (at .inv .1),
-      below-more (λ k. getD (set (at .numbers) (at .i) (jobOf s (at .i) .worst)) k 0 ≡ jobOf s k .worst) (at .i)
-          (λ k h. getD-set-other (at .numbers) (at .i) k (jobOf s (at .i) .worst) 0 (λ e. omega arith) ∙ at .inv .2 k h)
-          (getD-set-same (at .numbers) (at .i) (jobOf s (at .i) .worst) 0 here),
-      drop-set-lt (c .before .before .before .args .rows) (at .numbers) (at .i) (jobOf s (at .i) .worst) (omega arith) ∙ at .inv .3,
-    )
+loop-again c = ?
 
+-- src/decide.rt:82:1
 same-length : tie.Need-same-length Inv-loop μ-loop
-same-length c = search needs
+same-length c = ?
 
+-- src/decide.rt:82:1
 returns : tie.Need-returns Inv-loop μ-loop
-returns c =
-    let at = c .before .loop in
-    record { size = at .inv .1; worst = λ k h. at .inv .2 k (omega arith); rest = at .inv .3 }
+returns c = ?
 
 pub write-worst-spec : {M : Type 1} → statement M
 write-worst-spec =
@@ -65,9 +56,9 @@ write-worst-spec =
     Inv-loop
     μ-loop
     loop-holds
-    mul-j
-    element-copy-out-j
     mul-numbers
+    element-copy-out-numbers
+    mul-numbers-2
     slice-write-numbers
     add-i
     loop-less

@@ -1,0 +1,15 @@
+use Rattle.checker.proofs.join.from.Statement.{statement}
+use Rattle.checker.proofs.join.from.Tie as tie
+use Rattle.checker.proofs.join.from.Reads as reads
+use Rattle.checker.proofs.join.from.Lts as lts
+
+-- src/join.rt:48:9
+returns : tie.Need-returns
+returns c = ?
+
+-- src/join.rt:44:1
+returns-2 : tie.Need-returns-2
+returns-2 c = ?
+
+pub from-spec : {M : Type 1} → statement M
+from-spec = tie.close (tie.spec returns returns-2)

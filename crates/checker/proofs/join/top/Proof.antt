@@ -1,0 +1,15 @@
+use Rattle.checker.proofs.join.top.Statement.{statement}
+use Rattle.checker.proofs.join.top.Tie as tie
+use Rattle.checker.proofs.join.top.Reads as reads
+use Rattle.checker.proofs.join.top.Lts as lts
+
+-- src/join.rt:38:9
+returns : tie.Need-returns
+returns c = ?
+
+-- src/join.rt:34:1
+returns-2 : tie.Need-returns-2
+returns-2 c = ?
+
+pub top-spec : {M : Type 1} → statement M
+top-spec = tie.close (tie.spec returns returns-2)
