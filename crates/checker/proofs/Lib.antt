@@ -1,4 +1,6 @@
-mod SoundTables
-mod Painted
-mod Replied
-mod InHand
+pub mod InHand
+pub mod Minima
+pub mod Painted
+pub mod Pass
+pub mod Replied
+pub mod SoundTables
