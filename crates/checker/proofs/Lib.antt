@@ -1,6 +1,9 @@
 pub mod InHand
+pub mod Leap
+pub mod Loads
 pub mod Minima
 pub mod Painted
 pub mod Pass
 pub mod Replied
 pub mod SoundTables
+pub mod Who
