@@ -1,3 +1,4 @@
+pub mod Arms
 pub mod InHand
 pub mod Leap
 pub mod Loads
