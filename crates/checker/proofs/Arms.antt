@@ -345,7 +345,7 @@ module _ (p : ℕ) (t : Table) (sound : Sound t) (xs zs : List ℕ) (u : ℕ) (l
           soonest = soon;
           best = first;
           ahead = still-ahead;
-          last = sym (last-own (nowIn p t xs zs u) who load (v - u) i has ∙ ap (λ (c : Bool). cond c 0 (suc i)) (le-leb _ _ (omega (arith, own-all))));
+          last = sym (last-own (nowIn p t xs zs u) who load (v - u) i has ∙ ap (λ (c : Bool). cond c 0 (suc i)) (le-leb (nowIn p t xs zs u .need i) (nowIn p t xs zs u .executed i + (v - u - load)) (omega (arith, own-all))));
           left = loaded-all u v load (needIn s i - executedIn s i) all;
           asked = refl;
           begun = begun;

@@ -1,10 +1,13 @@
 pub mod Arms
+pub mod Bytes
 pub mod InHand
 pub mod Leap
 pub mod Loads
 pub mod Minima
+pub mod Misses
 pub mod Painted
 pub mod Pass
 pub mod Replied
 pub mod SoundTables
+pub mod Watch
 pub mod Who
