@@ -1,4 +1,6 @@
-mod SoundTables
-mod Painted
-mod Replied
-mod InHand
+pub mod InHand
+pub mod Needed
+pub mod Painted
+pub mod Replied
+pub mod SoundTables
+pub mod Written
