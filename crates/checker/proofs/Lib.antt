@@ -5,9 +5,11 @@ pub mod Leap
 pub mod Loads
 pub mod Minima
 pub mod Misses
+pub mod Needed
 pub mod Painted
 pub mod Pass
 pub mod Replied
 pub mod SoundTables
 pub mod Watch
 pub mod Who
+pub mod Written

@@ -1,53 +1,64 @@
+-- `as_run`: a refusal, which writes nothing; else the run over the slots there is room for and, after a miss, the marks.
+use mathlib.Core.Path.{refl}
+use mathlib.Core.Logic.{inl}
+use native.Mathlib.Omega.{arith}
 use borrow.Author.Needs.{needs}
+use Rattle.checker.proofs.InHand.{refusal-in, fit-in, sound-in}
+use Rattle.checker.proofs.Written.{slots-room, writes-refused, as-run-filled, as-run-missed}
 use Rattle.checker.proofs.as_run.Statement.{statement}
 use Rattle.checker.proofs.as_run.Tie as tie
-use Rattle.checker.proofs.as_run.Reads as reads
-use Rattle.checker.proofs.as_run.Lts as lts
-use Rattle.checker.proofs.admit.admit.Reads as admit-reads
-use Rattle.checker.proofs.machine.id_of.Reads as id-of-reads
-use Rattle.checker.proofs.machine.run.Reads as run-reads
-use Rattle.checker.proofs.paint.fill.Reads as fill-reads
-use Rattle.table.proofs.slots_wrong.Reads as slots-wrong-reads
 
--- src/lib.rt:67:34
 slots-wrong-requires : tie.Need-slots-wrong-requires
 slots-wrong-requires c κs = search needs
 
--- src/lib.rt:67:9
 admit-requires : tie.Need-admit-requires
 admit-requires c κs = search needs
 
--- src/lib.rt:70:9
 returns : tie.Need-returns
-returns c = ?
+returns c =
+    let a = c .before .before .before in
+    let e = rw (a .before .slots-wrong .ensures) at (a .admit .ensures) in
+    writes-refused (refusal-in _ _ _ e) (c .if1 .taken)
 
--- src/lib.rt:77:9
 run-requires : tie.Need-run-requires
-run-requires c κs = ?
+run-requires c κs =
+    let fine = c .before .before in
+    let a = fine .before .before .before in
+    let e = rw (a .before .slots-wrong .ensures) at (a .admit .ensures) in
+    (sound-in _ _ _ e (fine .if1 .left), (inl refl, slots-room _ (fit-in _ _ _ e (fine .if1 .left))))
 
--- src/lib.rt:89:9
 fill-requires : tie.Need-fill-requires
 fill-requires c κs = search needs
 
--- src/lib.rt:92:17
 id-of-requires : tie.Need-id-of-requires
-id-of-requires c κs = ?
+id-of-requires c κs =
+    let went = c .before .before .before .before .before .before .before in
+    let fine = went .before .before .before in
+    let s = sound-in _ _ _ (fine .before .before .before .admit .ensures) (fine .if1 .left) in
+    omega (arith, went .run .ensures .0 .task, s .passed .few, s .count)
 
--- src/lib.rt:90:9
 same-length : tie.Need-same-length
 same-length c = search needs
 
--- src/lib.rt:90:9
 returns-2 : tie.Need-returns-2
-returns-2 c = ?
+returns-2 c =
+    let miss = c .before .before .before .before .before in
+    let went = miss .before .before .before in
+    let fine = went .before .before .before in
+    let a = fine .before .before .before in
+    let e = rw (a .before .slots-wrong .ensures) at (a .admit .ensures) in
+    as-run-missed _ e (fine .if1 .left) (went .run .ensures .0) (went .run .ensures .1) (miss .if2 .taken) (c .id-of .ensures) (c .before .before .before .fill .ensures)
 
--- src/lib.rt:58:1
 same-length-2 : tie.Need-same-length-2
 same-length-2 c = search needs
 
--- src/lib.rt:58:1
 returns-3 : tie.Need-returns-3
-returns-3 c = ?
+returns-3 c =
+    let went = c .before .before .before in
+    let fine = went .before .before .before in
+    let a = fine .before .before .before in
+    let e = rw (a .before .slots-wrong .ensures) at (a .admit .ensures) in
+    as-run-filled _ e (fine .if1 .left) (went .run .ensures .0) (went .run .ensures .1) (omega arith)
 
 pub as-run-spec : {M : Type 1} → statement M
 as-run-spec =

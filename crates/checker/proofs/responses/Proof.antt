@@ -1,49 +1,67 @@
+-- `responses` meets its contract: the refusal of checks 1 to 13, or what `decide` gives of the table admitted; the lent numbers are
+-- written only where that is accepted.
+use mathlib.Core.Path.{refl, sym, _∙_}
+use native.Mathlib.Omega.{arith}
 use borrow.Author.Needs.{needs}
+use borrow.Author.Tests.{ltb-false}
+use Rattle.rules.specs.Verdicts.{systemOf}
+use Rattle.checker.proofs.InHand.{refusal-in, fit-in, sound-in}
+use Rattle.checker.proofs.Replied.{given, decided, accepted-leaves, other-leaves}
+use Rattle.checker.proofs.SoundTables.{count-top}
 use Rattle.checker.proofs.responses.Statement.{statement}
 use Rattle.checker.proofs.responses.Tie as tie
-use Rattle.checker.proofs.responses.Reads as reads
-use Rattle.checker.proofs.responses.Lts as lts
-use Rattle.checker.proofs.admit.admit.Reads as admit-reads
-use Rattle.checker.proofs.decide.accepted.Reads as accepted-reads
-use Rattle.checker.proofs.decide.decide.Reads as decide-reads
-use Rattle.checker.proofs.decide.write_worst.Reads as write-worst-reads
-use Rattle.table.proofs.responses_wrong.Reads as responses-wrong-reads
 
--- src/lib.rt:38:34
 responses-wrong-requires : tie.Need-responses-wrong-requires
 responses-wrong-requires c κs = search needs
 
--- src/lib.rt:38:9
 admit-requires : tie.Need-admit-requires
 admit-requires c κs = search needs
 
--- src/lib.rt:41:9
 returns : tie.Need-returns
-returns c = ?
+returns c =
+    let a = c .before .before .before in
+    let e = rw (a .before .responses-wrong .ensures) at (a .admit .ensures) in
+    record { reply = given (refusal-in _ _ _ e) (c .if1 .taken) _ _ _; buffer = refl }
 
--- src/lib.rt:47:9
 decide-requires : tie.Need-decide-requires
-decide-requires c κs = ?
+decide-requires c κs = sound-in _ _ _ (c .before .before .before .before .admit .ensures) (c .before .if1 .left)
 
--- src/lib.rt:49:8
 accepted-requires : tie.Need-accepted-requires
 accepted-requires c κs = search needs
 
--- src/lib.rt:51:9
 write-worst-requires : tie.Need-write-worst-requires
-write-worst-requires c κs = ?
+write-worst-requires c κs =
+    let fine = c .before .before .before .before .before .before in
+    let a = fine .before .before .before in
+    let e = rw (a .before .responses-wrong .ensures) at (a .admit .ensures) in
+    let few = count-top (a .admit .result .table) (sound-in _ _ _ e (fine .if1 .left)) in
+    omega (arith, ltb-false, fit-in _ _ _ e (fine .if1 .left))
 
--- src/lib.rt:52:9
 same-length : tie.Need-same-length
 same-length c = search needs
 
--- src/lib.rt:52:9
 returns-2 : tie.Need-returns-2
-returns-2 c = ?
+returns-2 c =
+    let fine = c .before .before .before .before .before .before .before .before .before in
+    let a = fine .before .before .before in
+    let e = rw (a .before .responses-wrong .ensures) at (a .admit .ensures) in
+    let o = c .before .before .before .before .before .before .before .decide in
+    record {
+      reply = decided _ _ e (fine .if1 .left) (o .ensures);
+      buffer = accepted-leaves _ _ e (fine .if1 .left) (o .ensures) (c .before .before .write-worst .ensures) (sym (c .before .before .before .before .before .before .accepted .ensures) ∙ c .before .before .before .before .before .if2 .taken);
+    }
 
--- src/lib.rt:35:1
 returns-3 : tie.Need-returns-3
-returns-3 c = ?
+returns-3 c =
+    let fine = c .before .before .before .before in
+    let a = fine .before .before .before in
+    let e = rw (a .before .responses-wrong .ensures) at (a .admit .ensures) in
+    let x = a .before .before .before .before .args in
+    let o = c .before .before .decide in
+    record {
+      reply = decided _ _ e (fine .if1 .left) (o .ensures);
+      buffer = other-leaves (systemOf (x .policy) (x .text .now)) (o .result .verdict) (x .numbers .now) (sym (c .before .accepted .ensures) ∙ c .if2 .left);
+    }
 
 pub responses-spec : {M : Type 1} → statement M
 responses-spec =

@@ -1,63 +1,64 @@
+-- `decide` meets its contract: what the run up to the allowance says of the slots needed, by `Needed`.
+use mathlib.Core.Path.{refl}
+use mathlib.Core.Logic.{inr}
+use native.Mathlib.Omega.{arith}
 use borrow.Author.Needs.{needs}
+use Rattle.checker.proofs.Needed.{missed-end, accepted-end, undecided-end}
+use Rattle.checker.proofs.SoundTables.{count-top}
 use Rattle.checker.proofs.decide.decide.Statement.{statement}
 use Rattle.checker.proofs.decide.decide.Tie as tie
-use Rattle.checker.proofs.decide.decide.Reads as reads
-use Rattle.checker.proofs.decide.decide.Lts as lts
-use Rattle.checker.proofs.decide.enough.Reads as enough-reads
-use Rattle.checker.proofs.machine.id_of.Reads as id-of-reads
-use Rattle.checker.proofs.machine.run.Reads as run-reads
 
--- src/decide.rt:46:17
 cast-first : tie.Need-cast-first
 cast-first c = search needs
 
--- src/decide.rt:47:9
 enough-requires : tie.Need-enough-requires
 enough-requires c κs = search needs
 
--- src/decide.rt:53:9
 array-share-prefix-requests : tie.Need-array-share-prefix-requests
 array-share-prefix-requests c = search needs
 
--- src/decide.rt:53:9
 slice-aggregate-run : tie.Need-slice-aggregate-run
 slice-aggregate-run c = search needs
 
--- src/decide.rt:54:9
 array-share-prefix-loadings : tie.Need-array-share-prefix-loadings
 array-share-prefix-loadings c = search needs
 
--- src/decide.rt:54:9
 slice-aggregate-run-2 : tie.Need-slice-aggregate-run-2
 slice-aggregate-run-2 c = search needs
 
--- src/decide.rt:55:9
 array-borrow-prefix-slots : tie.Need-array-borrow-prefix-slots
 array-borrow-prefix-slots c = search needs
 
--- src/decide.rt:55:9
 slice-aggregate-run-3 : tie.Need-slice-aggregate-run-3
 slice-aggregate-run-3 c = search needs
 
--- src/decide.rt:48:9
 run-requires : tie.Need-run-requires
-run-requires c κs = ?
+run-requires c κs =
+    let a = c .before .before .before in
+    (a .before .before .pre, (inr refl, rw (a .enough .ensures) (omega arith)))
 
--- src/decide.rt:60:13
 id-of-requires : tie.Need-id-of-requires
-id-of-requires c κs = search needs
+id-of-requires c κs =
+    let x = c .before .before .before .before .before .before .before .before .before in
+    omega (arith, c .before .before .before .run .ensures .0 .task, count-top (x .args .t) (x .pre))
 
--- src/decide.rt:61:9
 returns : tie.Need-returns
-returns c = ?
+returns c =
+    let went = c .before .before .before .before in
+    let end = went .before .before .before .before in
+    missed-end _ _ (end .before .before .pre) _ _ (rw (end .enough .ensures) at (went .run .ensures .0)) _ (c .before .if1 .taken) (c .id-of .ensures)
 
--- src/decide.rt:70:9
 returns-2 : tie.Need-returns-2
-returns-2 c = ?
+returns-2 c =
+    let went = c .before .before .before .before in
+    let end = went .before .before .before .before in
+    accepted-end _ _ (end .before .before .pre) _ _ (rw (end .enough .ensures) at (went .run .ensures .0)) (omega arith) (c .if2 .taken)
 
--- src/decide.rt:39:1
 returns-3 : tie.Need-returns-3
-returns-3 c = ?
+returns-3 c =
+    let went = c .before .before .before .before in
+    let end = went .before .before .before .before in
+    undecided-end _ _ (end .before .before .pre) _ _ (rw (end .enough .ensures) at (went .run .ensures .0)) (omega arith) (c .if2 .left)
 
 pub decide-spec : {M : Type 1} → statement M
 decide-spec =

@@ -1,53 +1,62 @@
+-- Rests on the loop's invariant: the numbers passed are written, and those from `rows` on are as they were.
+use mathlib.Core.Path.{_≡_, refl, _∙_}
+use Prim.Native.Nat.{ℕ, _-_, _≤_, _<_}
+use native.Mathlib.Omega.{arith}
+use borrow.Author.Count.{below-more}
+use borrow.Author.Needs.{needs}
+use lib.ListN.{length, getD, drop, set, length-set}
+use lib.Seq.{getD-set-same, getD-set-other, drop-set-lt}
+use Rattle.checker.specs.Machine.{worstIn}
 use Rattle.checker.proofs.decide.write_worst.Statement.{statement}
 use Rattle.checker.proofs.decide.write_worst.Tie as tie
-use Rattle.checker.proofs.decide.write_worst.Reads as reads
-use Rattle.checker.proofs.decide.write_worst.Lts as lts
 
 abbrev Inv-loop : tie.InvT-loop
-Inv-loop rows numbers₀ s i₀ numbers i = ?
+Inv-loop rows numbers₀ s i₀ numbers i = (i ≤ rows) × (length numbers ≡ length numbers₀) × ((k : ℕ) → k < i → getD numbers k 0 ≡ worstIn s k) × (drop rows numbers ≡ drop rows numbers₀)
 
 abbrev μ-loop : tie.MeasureT-loop
-μ-loop rows numbers₀ s i₀ numbers i = ?
+μ-loop rows numbers₀ s i₀ numbers i = rows - i
 
--- src/decide.rt:87:5
 loop-holds : tie.Need-loop-holds Inv-loop μ-loop
-loop-holds c = ?
+loop-holds c = (search needs, refl, λ k h. absurd (omega arith), refl)
 
--- src/decide.rt:88:22
 mul-numbers : tie.Need-mul-numbers Inv-loop μ-loop
-mul-numbers c = ?
+mul-numbers c = search needs
 
--- src/decide.rt:88:22
 element-copy-out-numbers : tie.Need-element-copy-out-numbers Inv-loop μ-loop
-element-copy-out-numbers c = ?
+element-copy-out-numbers c = search needs
 
--- src/decide.rt:88:9
 mul-numbers-2 : tie.Need-mul-numbers-2 Inv-loop μ-loop
-mul-numbers-2 c = ?
+mul-numbers-2 c = search needs
 
--- src/decide.rt:88:9
 slice-write-numbers : tie.Need-slice-write-numbers Inv-loop μ-loop
-slice-write-numbers c = ?
+slice-write-numbers c = search needs
 
--- src/decide.rt:89:9
 add-i : tie.Need-add-i Inv-loop μ-loop
-add-i c = ?
+add-i c = search needs
 
--- src/decide.rt:87:5
 loop-less : tie.Need-loop-less Inv-loop μ-loop
-loop-less c = ?
+loop-less c = search needs
 
--- src/decide.rt:87:5
 loop-again : tie.Need-loop-again Inv-loop μ-loop
-loop-again c = ?
+loop-again c =
+    let at = c .before .before .loop in
+    let s = c .before .before .before .args .t2 in
+    let here : at .i < length (at .numbers) = omega arith in (
+      search needs,
+      simp length-set (at .inv .1),
+      below-more (λ k. getD (set (at .numbers) (at .i) (worstIn s (at .i))) k 0 ≡ worstIn s k) (at .i)
+          (λ k h. getD-set-other (at .numbers) (at .i) k (worstIn s (at .i)) 0 (λ e. omega arith) ∙ at .inv .2 k h)
+          (getD-set-same (at .numbers) (at .i) (worstIn s (at .i)) 0 here),
+      drop-set-lt (c .before .before .before .args .rows) (at .numbers) (at .i) (worstIn s (at .i)) (omega arith) ∙ at .inv .3,
+    )
 
--- src/decide.rt:82:1
 same-length : tie.Need-same-length Inv-loop μ-loop
-same-length c = ?
+same-length c = search needs
 
--- src/decide.rt:82:1
 returns : tie.Need-returns Inv-loop μ-loop
-returns c = ?
+returns c =
+    let at = c .before .loop in
+    record { size = at .inv .1; worst = λ k h. at .inv .2 k (omega arith); rest = at .inv .3 }
 
 pub write-worst-spec : {M : Type 1} → statement M
 write-worst-spec =

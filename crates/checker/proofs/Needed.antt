@@ -1,0 +1,132 @@
+-- What the run of the schedule says of the slots needed, of which there are at most 2^48. It went up to the allowance, or up to 2^48
+-- if that is less, and its marks Omax + k × H were compared. It stopped at the earliest miss; or at the first mark with the state of
+-- the mark before, which settles it; or it went through, and then the slots needed exceed the allowance. `decide` uses one law for
+-- each of the three.
+use mathlib.Core.Path.{_≡_, refl, sym, ap, _∙_}
+use mathlib.Core.Logic.{inl, inr}
+use mathlib.Core.Bool.{true, false}
+use mathlib.Core.List.{List, []}
+use Prim.Native.Nat.{ℕ, suc, _+_, _-_, _≤_, _<_, min, pred}
+use native.Mathlib.Omega.{arith}
+use lib.ListN.{getD}
+use Rattle.rules.specs.declared.Table.{Table}
+use Rattle.rules.specs.declared.Verdict.the-variants.{Accepted, Missed, Undecided}
+use Rattle.rules.specs.Table.{noRow, omax, hyper}
+use Rattle.rules.specs.Policies as policies
+use Rattle.rules.specs.Slots as rules
+use Rattle.rules.specs.Decided.{Same, missedAt, NeverMissed, Equal, SlotsNeeded}
+use Rattle.rules.specs.Verdicts.{plain}
+use Rattle.basics.specs.Cases.{le-case, clash}
+use Rattle.theory.specs.Policies.{policy-repeats}
+use Rattle.theory.specs.Times.{Short, Turn}
+use Rattle.theory.specs.AsRun.{listed-nothing}
+use Rattle.theory.specs.Decides.{Within}
+use Rattle.theory.specs.Rows as rows
+use Rattle.theory.specs.Repetition.{never-missed}
+use Rattle.theory.specs.Completions.{seen-worst}
+use Rattle.checker.specs.declared.machine.Stop.{Stop}
+use Rattle.checker.specs.Machine.{live, Sound, systemIn, choices, missAt, worstIn, markOf, SameAt, Repeats, Ran}
+use Rattle.checker.specs.Outcomes.{acceptedOf, Outcomes}
+use Rattle.checker.proofs.SoundTables.{valid, id-in, deadline-some}
+
+-- a run that stopped with no miss has none up to where it stopped. `Written` uses it too
+pub clean-upto : {p : ℕ} {t : Table} {xs zs : List ℕ} {first end : ℕ} {q : Stop} → Ran p t xs zs first end q → q .miss ≡ 0
+    → (v : ℕ) → v ≤ q .time → missAt p t xs zs v ≡ 0
+clean-upto {q = q} ran none v h = le-case (q .time) v
+    (λ k. let e : v ≡ q .time = omega arith in rw e (sym (ran .miss) ∙ none))
+    (λ k. ran .clean v k)
+
+-- two times with one state, of the run said in another way
+same-on : (y : policies.System) (u v : ℕ) {c d : ℕ → rules.Choice} → c ≡ d → Same (y .tasks) (rules.run y c u) (rules.run y c v)
+    → Same (y .tasks) (rules.run y d u) (rules.run y d v)
+same-on y u v e m = rw e at m
+
+-- with no lists the run in hand is the schedule
+module _ (p : ℕ) (t : Table) where
+  as-stated : choices p t [] [] ≡ rules.stated (systemIn p t)
+  as-stated = listed-nothing (systemIn p t)
+
+  miss-stated : (u : ℕ) → missAt p t [] [] u ≡ missedAt (systemIn p t) (rules.stated (systemIn p t)) u
+  miss-stated u = ap (λ (c : ℕ → rules.Choice). missedAt (systemIn p t) c u) as-stated
+
+  equal-stated : (k : ℕ) → SameAt p t [] [] k → Equal (systemIn p t) (t .omax) (t .hyper) k
+  equal-stated k = same-on (systemIn p t) (markOf t k) (markOf t (suc k)) as-stated
+
+  stated-equal : (k : ℕ) → Equal (systemIn p t) (t .omax) (t .hyper) k → SameAt p t [] [] k
+  stated-equal k = same-on (systemIn p t) (markOf t k) (markOf t (suc k)) (sym as-stated)
+
+module _ (p : ℕ) (t : Table) (g : Sound t) where
+  -- what the theory asks
+  short-in : Short (systemIn p t)
+  short-in = rows.shorts (policies.policy p) (policy-repeats p) (live t) (valid t g .passes)
+
+  turn-in : Turn (systemIn p t) (t .hyper)
+  turn-in = rw (g .hyper) (rows.turn (policies.policy p) (policy-repeats p) (live t) (valid t g .passes))
+
+  within-in : Within (systemIn p t) (t .omax) (t .hyper)
+  within-in = rw (g .omax, g .hyper) (rows.within (policies.policy p) (policy-repeats p) (live t) (valid t g .passes))
+
+  -- THE RUN up to the allowance a, or up to 2^48
+  module _ (a : ℕ) (q : Stop) (ran : Ran p t [] [] (t .omax) (min a 281474976710656) q) where
+    pub missed-end : (i : ℕ) → 0 < q .miss → i ≡ getD (t .rows) (q .miss - 1) noRow .id
+        → Outcomes p t a (record { verdict = Missed (q .time) i; state = q .state })
+    missed-end i some its = record {
+      decides = (
+        record { misses = λ e. omega (arith, ran .miss, miss-stated p t (q .time)); before = λ v h. sym (miss-stated p t v) ∙ ran .clean v h },
+        omega (arith, ran .most),
+        its ∙ id-in t g (q .miss) some (ran .task) ∙ ap (λ (m : ℕ). policies.row (live t) (pred m) .id) (ran .miss ∙ miss-stated p t (q .time)),
+      );
+      worst = λ n e. clash (ap acceptedOf e) refl;
+    }
+
+    -- it stopped at a mark with the state of the mark before: `from`
+    module _ (none : q .miss ≡ 0) (again : q .repeats ≡ true) where
+      stop : Repeats p t [] [] (q .time)
+      stop = ran .repeats again
+
+      abbrev from : ℕ
+      from = markOf t (stop .k)
+
+      next : markOf t (suc (stop .k)) ≡ from + t .hyper
+      next = omega arith
+
+      equal : Equal (systemIn p t) (t .omax) (t .hyper) (stop .k)
+      equal = equal-stated p t (stop .k) (stop .same)
+
+      same : Same (systemIn p t .tasks) (rules.schedule (systemIn p t) from) (rules.schedule (systemIn p t) (from + t .hyper))
+      same = rw next at equal
+
+      offsets : (i : ℕ) → policies.row (live t) i .offset ≤ from
+      offsets i = omega (arith, within-in .offsets i)
+
+      never : NeverMissed (systemIn p t)
+      never = never-missed (systemIn p t) short-in (t .hyper) turn-in (within-in .some) from offsets same
+          (λ v h. sym (miss-stated p t v) ∙ ran .clean v (omega (arith, stop .mark)))
+
+      pub accepted-end : Outcomes p t a (record { verdict = Accepted (q .time); state = q .state })
+      accepted-end = record {
+        decides = rw (← g .omax, ← g .hyper) (
+          record { never = never; k = stop .k; equal = equal; least = λ i h e. stop .apart i h (stated-equal p t i e); number = stop .mark },
+          omega (arith, ran .most),
+        );
+        worst = λ n e i low. seen-worst (systemIn p t) short-in (t .hyper) turn-in (within-in .some) from offsets same never i (omega (arith, g .count))
+            (deadline-some t g i low) (worstIn (q .state) i) (rw (stop .mark ∙ next) at (ran .at none .seen (as-stated p t) i low));
+      }
+
+    -- it went through: neither a miss nor an equal state is within it
+    module _ (none : q .miss ≡ 0) (apart : q .repeats ≡ false) where
+      exceeds : (n : ℕ) → SlotsNeeded (systemIn p t) (t .omax) (t .hyper) plain n → q .time < n
+      exceeds n (inl m) = le-case n (q .time) (λ h. absurd (m .misses (sym (miss-stated p t n) ∙ clean-upto ran none n h))) (λ h. h)
+      exceeds n (inr s) = le-case (markOf t (suc (s .k))) (q .time)
+          (λ h. absurd (ran .apart apart none refl (s .k) (omega (arith, ran .most)) (stated-equal p t (s .k) (s .equal))))
+          (λ h. omega (arith, s .number))
+
+      pub undecided-end : Outcomes p t a (record { verdict = Undecided; state = q .state })
+      undecided-end =
+          let needed = rows.needed (policies.policy p) (policy-repeats p) (live t) (valid t g) in
+          let most = rows.at-most (policies.policy p) (policy-repeats p) (live t) (valid t g) _ needed in
+          let least : (n : ℕ) → SlotsNeeded (systemIn p t) (omax (live t)) (hyper (live t)) plain n → q .time < n = rw (← g .omax, ← g .hyper) exceeds in
+          record {
+            decides = (_, needed, omega (arith, most, least _ needed, ran .through apart none));
+            worst = λ n e. clash (ap acceptedOf e) refl;
+          }
