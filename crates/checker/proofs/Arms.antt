@@ -27,7 +27,7 @@ use Rattle.checker.specs.declared.machine.State.{State}
 use Rattle.checker.specs.Least.{Least}
 use Rattle.checker.specs.Machine.{live, Sound, systemIn, choices, missAt, nothing, releaseIn, dueIn, needIn, executedIn, worstIn, At}
 use Rattle.checker.proofs.SoundTables.{fine-in, count-top}
-use Rattle.checker.proofs.Minima.{least-part, least-drop}
+use Rattle.checker.proofs.Minima.{stays-empty}
 use Rattle.checker.proofs.Pass.{nowIn, Ready}
 use Rattle.checker.proofs.Who.{begun-before, who-none}
 use Rattle.checker.proofs.Leap.{Near, periods, quiet-in, Moved, at-after, seen-on, seen-end}
@@ -309,9 +309,6 @@ module _ (p : ℕ) (t : Table) (sound : Sound t) (xs zs : List ℕ) (u : ℕ) (l
               seen = λ c. rw (getD-set-same (s .worst) i worst 0 in-worst) (ends-seen c);
             }
 
-        emptied : (l : List ℕ) (k : ℕ) → i < length l → getD l k never ≡ never → getD (set l i never) k never ≡ never
-        emptied l k inside e = eq-case k i (λ g. rw g (getD-set-same l i never never inside)) (λ g. getD-set-other l i k never never g ∙ e)
-
         still-ahead : v ≤ soonest
         still-ahead = go (soon .hit)
           where
@@ -340,7 +337,7 @@ module _ (p : ℕ) (t : Table) (sound : Sound t) (xs zs : List ℕ) (u : ℕ) (l
               (getD-set-other (s .worst) i k worst 0 e));
           rest = λ k h.
               let o = r .rest k h in
-              record { release = o .release; due = emptied (s .due) k in-due (o .due); key = emptied (s .key) k in-key (o .key) };
+              record { release = o .release; due = stays-empty (s .due) i k in-due (o .due); key = stays-empty (s .key) i k in-key (o .key) };
           next = r .next;
           soonest = soon;
           best = first;

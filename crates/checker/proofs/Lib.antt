@@ -1,5 +1,6 @@
 pub mod Arms
 pub mod Bytes
+pub mod Going
 pub mod InHand
 pub mod Leap
 pub mod Loads

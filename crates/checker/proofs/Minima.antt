@@ -45,6 +45,10 @@ least-part n k l m e rest h = record { low = λ i b. h .low i (omega arith); top
     go (inl q) = inl q
     go (inr x) = le-case n (x .0) (λ g. inl (sym (x .2) ∙ rest (x .0) g)) (λ g. inr (x .0, g, x .2))
 
+-- an empty place stays so where one is emptied
+pub stays-empty : (l : List ℕ) (i k : ℕ) → i < length l → getD l k never ≡ never → getD (set l i never) k never ≡ never
+stays-empty l i k inside e = eq-case k i (λ g. rw g (getD-set-same l i never never inside)) (λ g. getD-set-other l i k never never g ∙ e)
+
 module _ (n : ℕ) (l : List ℕ) (m i : ℕ) (inside : i < length l) (h : Least n l m) where
   -- a place that was empty holds x
   pub least-put : (x : ℕ) → i < n → getD l i never ≡ never → Least n (set l i x) (min m x)

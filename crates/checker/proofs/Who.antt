@@ -78,11 +78,12 @@ module _ (p : ℕ) (t : Table) (sound : Sound t) (xs zs : List ℕ) (u : ℕ) (l
       (λ k h. test (complete (nowIn p t xs zs u) k) (λ c. c) (λ c. absurd (omega (arith, e, r .passed .best .low k h, key-is k h c, key-low k h c))))
 
   -- the row of the least key has the slot
-  pub who-first : s .best ≢ never → (s .best % 16 < t .count) × (whose (systemIn p t) (choices p t xs zs) u ≡ suc (s .best % 16))
+  pub who-first : s .best ≢ never
+      → (s .best % 16 < t .count) × (whose (systemIn p t) (choices p t xs zs) u ≡ suc (s .best % 16)) × (complete (nowIn p t xs zs u) (s .best % 16) ≡ false)
   who-first some = go (r .passed .best .hit)
     where
       go : (s .best ≡ never) ⊎ ((j : ℕ) × (j < t .count) × (keyIn s j ≡ s .best))
-          → (s .best % 16 < t .count) × (whose (systemIn p t) (choices p t xs zs) u ≡ suc (s .best % 16))
+          → (s .best % 16 < t .count) × (whose (systemIn p t) (choices p t xs zs) u ≡ suc (s .best % 16)) × (complete (nowIn p t xs zs u) (s .best % 16) ≡ false)
       go (inl e) = absurd (some e)
       go (inr x) =
           let c : complete (nowIn p t xs zs u) (x .0) ≡ false =
@@ -100,4 +101,5 @@ module _ (p : ℕ) (t : Table) (sound : Sound t) (xs zs : List ℕ) (u : ℕ) (l
                   let g = key-is k h d in
                   (omega (arith, b, f, g, h, x .1, count-top t sound), λ m. omega (arith, b, f, g, m, h, x .1, count-top t sound)),
             ),
+            c,
           )
