@@ -129,7 +129,7 @@ module _ (p : ℕ) (t : Table) (sound : Sound t) (xs zs : List ℕ) (u : ℕ) (l
   stays busy k h more m e c =
       let z : u + (v - u) ≡ v = omega (arith, near .after) in
       let b = seen-on (systemIn p t) (periods p t sound xs zs u low s₀ a s r v near) u (v - u) (omega (arith, near .after)) (quiet-in p t sound xs zs u low s₀ a s r v near)
-          (choices p t xs zs) c busy k (omega (arith, sound .count)) (worstIn s₀ k) (fine-in t sound k h .wcet-low) more (a .seen c k h) in
+      (choices p t xs zs) c busy k (omega (arith, sound .count)) (worstIn s₀ k) (fine-in t sound k h .wcet-low) more (a .seen c k h) in
       rw (e ∙ ap (λ l. getD l k 0) (r .passed .worst)) (rw z at b)
 
   -- a task that does not have the slots
@@ -291,7 +291,7 @@ module _ (p : ℕ) (t : Table) (sound : Sound t) (xs zs : List ℕ) (u : ℕ) (l
         ends-seen c =
             let z : u + (v - u) ≡ v = omega (arith, near .after) in
             let e = seen-end (systemIn p t) (periods p t sound xs zs u low s₀ a s r v near) u (v - u) (omega (arith, near .after)) (quiet-in p t sound xs zs u low s₀ a s r v near)
-                (choices p t xs zs) c task-busy i in-rows (worstIn s₀ i) has (omega (arith, own-all)) (a .seen c i below) in
+            (choices p t xs zs) c task-busy i in-rows (worstIn s₀ i) has (omega (arith, own-all)) (a .seen c i below) in
             let m = took ∙ ap (λ l. max (getD l i 0) (row (live t) i .period - min (releaseIn s i - v) 4294967295)) (r .passed .worst) ∙ ap (max (worstIn s₀ i)) (sym response) in
             rw m (rw z at e)
 

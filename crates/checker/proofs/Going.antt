@@ -62,18 +62,19 @@ span-full u stop full d e h k = let m : min stop full ≡ full = omega arith in 
 some-left : (u stop l f : ℕ) → stop < u + l + f → 0 < f → stop - u - l < f
 some-left u stop l f h k = omega arith
 
+-- at the head of the loop, at time u
+pub record Going (p : ℕ) (t : Table) (xs zs : List ℕ) (first end : ℕ) (before slots : List ℕ) (s : State) (was : Mark) (mark u : ℕ) : Type 0 where
+  pub most : u ≤ end
+  pub at : At p t xs zs u s
+  pub watched : Watched p t xs zs first mark u was
+  pub painted : PaintedRun p t xs zs 0 u before slots
+
 module _ (p : ℕ) (t : Table) (sound : Sound t) (xs zs : List ℕ) (first : ℕ) (kind : (first ≡ never) ⊎ (first ≡ t .omax)) (end : ℕ) (high : end ≤ 281474976710656)
     (before : List ℕ) where
-  pub record Going (slots : List ℕ) (s : State) (was : Mark) (mark u : ℕ) : Type 0 where
-    pub most : u ≤ end
-    pub at : At p t xs zs u s
-    pub watched : Watched p t xs zs first mark u was
-    pub painted : PaintedRun p t xs zs 0 u before slots
-
-  pub going-start : (s : State) → At p t xs zs 0 s → (was : Mark) → was .last ≡ 17 → Going before s was first 0
+  pub going-start : (s : State) → At p t xs zs 0 s → (was : Mark) → was .last ≡ 17 → Going p t xs zs first end before before s was first 0
   going-start s a was e = record { most = omega arith; at = a; watched = watched-start p t xs zs first was e; painted = painted-none _ _ before (omega arith) }
 
-  module _ (slots : List ℕ) (s : State) (was : Mark) (mark u : ℕ) (g : Going slots s was mark u) where
+  module _ (slots : List ℕ) (s : State) (was : Mark) (mark u : ℕ) (g : Going p t xs zs first end before slots s was mark u) where
     low : u ≤ 281474976710656
     low = omega (arith, g .most, high)
 
@@ -112,7 +113,7 @@ module _ (p : ℕ) (t : Table) (sound : Sound t) (xs zs : List ℕ) (first : ℕ
         apart = λ z. clash refl z;
       }
 
-      pub going-marked : mark ≡ u → (Alike (t .count) (keep s) was → ⊥) → Going slots s (keep s) (u + t .hyper) u
+      pub going-marked : mark ≡ u → (Alike (t .count) (keep s) was → ⊥) → Going p t xs zs first end before slots s (keep s) (u + t .hyper) u
       going-marked now differ = record {
         most = g .most;
         at = g .at;
@@ -152,7 +153,7 @@ module _ (p : ℕ) (t : Table) (sound : Sound t) (xs zs : List ℕ) (first : ℕ
           near : (v : ℕ) → u < v → v ≤ stop → Near u v s₁
           near v a b = record { after = a; next = omega (arith, is); soonest = omega (arith, is) }
 
-          going-on : (v : ℕ) → v ≤ stop → (s′ : State) → At p t xs zs v s′ → (slots′ : List ℕ) → PaintedRun p t xs zs 0 v before slots′ → Going slots′ s′ was mark v
+          going-on : (v : ℕ) → v ≤ stop → (s′ : State) → At p t xs zs v s′ → (slots′ : List ℕ) → PaintedRun p t xs zs 0 v before slots′ → Going p t xs zs first end before slots′ s′ was mark v
           going-on v h s′ a slots′ b = record {
             most = omega (arith, is);
             at = a;
@@ -162,7 +163,7 @@ module _ (p : ℕ) (t : Table) (sound : Sound t) (xs zs : List ℕ) (first : ℕ
 
           -- nobody has them
           pub going-idle : s₁ .best ≡ never → (slots′ : List ℕ) → Painted (stretchId 0 0) (stretchKind u 0 0) u (u + (stop - u)) slots slots′
-              → Going slots′ (idleState s₁) was mark stop
+              → Going p t xs zs first end before slots′ (idleState s₁) was mark stop
           going-idle none slots′ b =
               let n = near stop stop-after (omega arith) in
               going-on stop (omega arith) (idleState s₁) (idle-at p t sound xs zs u low s (g .at) clear s₁ r stop n none) slots′
@@ -248,13 +249,14 @@ module _ (p : ℕ) (t : Table) (sound : Sound t) (xs zs : List ℕ) (first : ℕ
                     weaker : {m n : ℕ} → m < n → m ≤ n
                     weaker h = omega arith
 
-                pub going-goes : Going slots′ (goesState s₁ i x y (l .begun)) was mark stop
+                pub going-goes : Going p t xs zs first end before slots′ (goesState s₁ i x y (l .begun)) was mark stop
                 going-goes = going-on stop (at-most stop) (goesState s₁ i x y (l .begun))
                     (goes-at p t sound xs zs u low s (g .at) clear s₁ r stop n-stop i (has .0) (has .1) (has .2) (l .begun) loadings room less-is x x-count y
                     (y-is ∙ ap (λ n. l .slots .0 - n) d-stop ∙ ap (λ n. n - (stop - u)) to-load)) slots′
                     (painted-on p t sound xs zs u stop stop-after (quiet-in p t sound xs zs u low s (g .at) s₁ r stop n-stop)
                     (task-busy p t sound xs zs u low s (g .at) clear s₁ r stop n-stop i (has .0) (has .1) (has .2) (l .begun) loadings room)
                     (i + 1) (add-one i ∙ sym (has .1)) (l .slots .0) to-load (w .id) its-id d (ap (λ n. u + n) d-stop ∙ back-on u stop stop-after) (g .painted) b)
+
               -- its job is complete with them
               module _ (fits : full ≤ stop) (worst : ℕ) (took : worst ≡ max (worstIn s₁ i) (w .period - min (releaseIn s₁ i - full) 4294967295))
                   (blocks : ℕ) (enough : t .count ≤ 4 * blocks)
@@ -290,7 +292,7 @@ module _ (p : ℕ) (t : Table) (sound : Sound t) (xs zs : List ℕ) (first : ℕ
                 room-full : full ≤ u + loads (systemIn p t) (choices p t xs zs) u + (needIn s₁ i - executedIn s₁ i)
                 room-full = rw (← full-is) (at-most full)
 
-                pub going-ends : Going slots′ (endsState s₁ i worst soonest best (l .begun)) was mark full
+                pub going-ends : Going p t xs zs first end before slots′ (endsState s₁ i worst soonest best (l .begun)) was mark full
                 going-ends = going-on full fits (endsState s₁ i worst soonest best (l .begun))
                     (ends-at p t sound xs zs u low s (g .at) clear s₁ r full n-full i (has .0) (has .1) (has .2) (l .begun) loadings room-full full-is worst (rw its at took)
                     soonest soonest-is best best-is) slots′

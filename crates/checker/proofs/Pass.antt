@@ -90,9 +90,10 @@ module _ (p : ℕ) (w : Row) (pos : 0 < w .period) (x : rules.State) (u k : ℕ)
         let d = due ∙ ap (λ (b : Bool). cond b never (u + w .deadline)) (ne-eqb (min ask (w .wcet)) 0 some) in
         (omega (arith, d, release), key ∙ ap (λ (b : Bool). cond b never (rankOf p w k (u + w .deadline))) (ne-eqb (min ask (w .wcet)) 0 some) ∙ ap (rankOf p w k) (sym d));
     complete = λ g.
-        let none : min ask (w .wcet) ≡ 0 = omega (arith, leb-true (c k) 0 g, e) in
-        (due ∙ ap (λ (b : Bool). cond b never (u + w .deadline)) (eq-eqb (min ask (w .wcet)) 0 none),
-        key ∙ ap (λ (b : Bool). cond b never (rankOf p w k (u + w .deadline))) (eq-eqb (min ask (w .wcet)) 0 none));
+        let none : min ask (w .wcet) ≡ 0 = omega (arith, leb-true (c k) 0 g, e) in (
+          due ∙ ap (λ (b : Bool). cond b never (u + w .deadline)) (eq-eqb (min ask (w .wcet)) 0 none),
+          key ∙ ap (λ (b : Bool). cond b never (rankOf p w k (u + w .deadline))) (eq-eqb (min ask (w .wcet)) 0 none),
+        );
   })
 
 -- THE REQUESTS: an entry is used by each release, as long as there is one
@@ -202,7 +203,11 @@ module _ (p : ℕ) (t : Table) (sound : Sound t) (xs zs : List ℕ) (u : ℕ) (s
       full = q .full;
       joined = λ k l. eq-case k i
           (λ e. rw e (let j = task-stays p (row (live t) i) (pos i h) (stateAt p t xs zs u) u i s (requests (systemIn p t) (choices p t xs zs u)) task r in record {
-            need = j .need; executed = j .executed; release = j .release; incomplete = j .incomplete; complete = j .complete;
+            need = j .need;
+            executed = j .executed;
+            release = j .release;
+            incomplete = j .incomplete;
+            complete = j .complete;
           }))
           (λ e. q .joined k (omega arith));
       others = λ k l. q .others k (omega arith);

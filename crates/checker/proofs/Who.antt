@@ -93,13 +93,13 @@ module _ (p : ℕ) (t : Table) (sound : Sound t) (xs zs : List ℕ) (u : ℕ) (l
           rw i (
             x .1,
             ap (pick (rank (systemIn p t) u) (complete (nowIn p t xs zs u))) (sound .count)
-            ∙ pick-is (rank (systemIn p t) u) (complete (nowIn p t xs zs u)) (t .count) (suc (x .0)) (
-              x .1,
-              c,
-              λ k h d.
-                  let f = r .passed .best .low k h in
-                  let g = key-is k h d in
-                  (omega (arith, b, f, g, h, x .1, count-top t sound), λ m. omega (arith, b, f, g, m, h, x .1, count-top t sound)),
-            ),
+                ∙ pick-is (rank (systemIn p t) u) (complete (nowIn p t xs zs u)) (t .count) (suc (x .0)) (
+                  x .1,
+                  c,
+                  λ k h d.
+                      let f = r .passed .best .low k h in
+                      let g = key-is k h d in
+                      (omega (arith, b, f, g, h, x .1, count-top t sound), λ m. omega (arith, b, f, g, m, h, x .1, count-top t sound)),
+                ),
             c,
           )

@@ -74,15 +74,7 @@ pub fn as_run(
     }
     let t = g.table;
     let n = slots.len() / 2;
-    let q = machine::run(
-        t,
-        policy,
-        slots::NEVER,
-        n as u64,
-        requests,
-        loadings,
-        slots,
-    );
+    let q = machine::run(t, policy, slots::NEVER, n as u64, requests, loadings, slots);
     let m = q.miss;
     if 0 < m {
         let from = q.time as usize;

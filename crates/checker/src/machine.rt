@@ -202,14 +202,7 @@ pub fn run(
         s.next = next;
         let stop = slots::sooner(slots::sooner(end, mark), slots::sooner(next, s.soonest));
         if s.best == slots::NEVER {
-            crate::paint::stretch(
-                slots,
-                time as usize,
-                slots::span(time, stop) as usize,
-                0,
-                0,
-                0,
-            );
+            crate::paint::stretch(slots, time as usize, (stop - time) as usize, 0, 0, 0);
             let none = Loading(0);
             s.last = 0;
             s.left = none;

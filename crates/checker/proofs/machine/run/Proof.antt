@@ -236,13 +236,9 @@ sooner-requires-6 c κs = ?
 sooner-requires-7 : tie.Need-sooner-requires-7 Inv-loop2 μ-loop2 Inv-loop μ-loop
 sooner-requires-7 c κs = ?
 
--- src/machine.rt:208:17
-span-requires : tie.Need-span-requires Inv-loop2 μ-loop2 Inv-loop μ-loop
-span-requires c κs = ?
-
--- src/machine.rt:208:17
-cast-stretch : tie.Need-cast-stretch Inv-loop2 μ-loop2 Inv-loop μ-loop
-cast-stretch c = ?
+-- src/machine.rt:205:58
+sub-stretch : tie.Need-sub-stretch Inv-loop2 μ-loop2 Inv-loop μ-loop
+sub-stretch c = ?
 
 -- src/machine.rt:205:13
 stretch-requires : tie.Need-stretch-requires Inv-loop2 μ-loop2 Inv-loop μ-loop
@@ -256,107 +252,107 @@ loop-less-2 c = ?
 loop-again-2 : tie.Need-loop-again-2 Inv-loop2 μ-loop2 Inv-loop μ-loop
 loop-again-2 c = ?
 
--- src/machine.rt:220:17
+-- src/machine.rt:213:17
 mul-r-2 : tie.Need-mul-r-2 Inv-loop2 μ-loop2 Inv-loop μ-loop
 mul-r-2 c = ?
 
--- src/machine.rt:220:17
+-- src/machine.rt:213:17
 element-copy-out-r-2 : tie.Need-element-copy-out-r-2 Inv-loop2 μ-loop2 Inv-loop μ-loop
 element-copy-out-r-2 c = ?
 
--- src/machine.rt:221:17
+-- src/machine.rt:214:17
 mul-e : tie.Need-mul-e Inv-loop2 μ-loop2 Inv-loop μ-loop
 mul-e c = ?
 
--- src/machine.rt:221:17
+-- src/machine.rt:214:17
 element-copy-out-e : tie.Need-element-copy-out-e Inv-loop2 μ-loop2 Inv-loop μ-loop
 element-copy-out-e c = ?
 
--- src/machine.rt:222:17
+-- src/machine.rt:215:17
 mul-n-2 : tie.Need-mul-n-2 Inv-loop2 μ-loop2 Inv-loop μ-loop
 mul-n-2 c = ?
 
--- src/machine.rt:222:17
+-- src/machine.rt:215:17
 element-copy-out-n : tie.Need-element-copy-out-n Inv-loop2 μ-loop2 Inv-loop μ-loop
 element-copy-out-n c = ?
 
--- src/machine.rt:224:46
+-- src/machine.rt:217:46
 add-continues : tie.Need-add-continues Inv-loop2 μ-loop2 Inv-loop μ-loop
 add-continues c = ?
 
--- src/machine.rt:224:53
+-- src/machine.rt:217:53
 mul-continues : tie.Need-mul-continues Inv-loop2 μ-loop2 Inv-loop μ-loop
 mul-continues c = ?
 
--- src/machine.rt:224:53
+-- src/machine.rt:217:53
 element-copy-out-continues : tie.Need-element-copy-out-continues Inv-loop2 μ-loop2 Inv-loop μ-loop
 element-copy-out-continues c = ?
 
--- src/machine.rt:224:74
+-- src/machine.rt:217:74
 cast-continues : tie.Need-cast-continues Inv-loop2 μ-loop2 Inv-loop μ-loop
 cast-continues c = ?
 
--- src/machine.rt:224:67
+-- src/machine.rt:217:67
 add-continues-2 : tie.Need-add-continues-2 Inv-loop2 μ-loop2 Inv-loop μ-loop
 add-continues-2 c = ?
 
--- src/machine.rt:224:13
+-- src/machine.rt:217:13
 continues-requires : tie.Need-continues-requires Inv-loop2 μ-loop2 Inv-loop μ-loop
 continues-requires c κs = ?
 
--- src/machine.rt:225:13
+-- src/machine.rt:218:13
 load-requires : tie.Need-load-requires Inv-loop2 μ-loop2 Inv-loop μ-loop
 load-requires c κs = ?
 
--- src/machine.rt:227:13
+-- src/machine.rt:220:13
 finish-requires : tie.Need-finish-requires Inv-loop2 μ-loop2 Inv-loop μ-loop
 finish-requires c κs = ?
 
--- src/machine.rt:228:35
+-- src/machine.rt:221:35
 sooner-requires-8 : tie.Need-sooner-requires-8 Inv-loop2 μ-loop2 Inv-loop μ-loop
 sooner-requires-8 c κs = ?
 
--- src/machine.rt:228:13
-span-requires-2 : tie.Need-span-requires-2 Inv-loop2 μ-loop2 Inv-loop μ-loop
-span-requires-2 c κs = ?
+-- src/machine.rt:221:13
+span-requires : tie.Need-span-requires Inv-loop2 μ-loop2 Inv-loop μ-loop
+span-requires c κs = ?
 
--- src/machine.rt:232:13
-cast-stretch-2 : tie.Need-cast-stretch-2 Inv-loop2 μ-loop2 Inv-loop μ-loop
-cast-stretch-2 c = ?
+-- src/machine.rt:225:13
+cast-stretch : tie.Need-cast-stretch Inv-loop2 μ-loop2 Inv-loop μ-loop
+cast-stretch c = ?
 
--- src/machine.rt:233:13
+-- src/machine.rt:226:13
 add-stretch : tie.Need-add-stretch Inv-loop2 μ-loop2 Inv-loop μ-loop
 add-stretch c = ?
 
--- src/machine.rt:235:13
-cast-stretch-3 : tie.Need-cast-stretch-3 Inv-loop2 μ-loop2 Inv-loop μ-loop
-cast-stretch-3 c = ?
+-- src/machine.rt:228:13
+cast-stretch-2 : tie.Need-cast-stretch-2 Inv-loop2 μ-loop2 Inv-loop μ-loop
+cast-stretch-2 c = ?
 
--- src/machine.rt:229:9
+-- src/machine.rt:222:9
 stretch-requires-2 : tie.Need-stretch-requires-2 Inv-loop2 μ-loop2 Inv-loop μ-loop
 stretch-requires-2 c κs = ?
 
--- src/machine.rt:239:41
+-- src/machine.rt:232:41
 minus-requires : tie.Need-minus-requires Inv-loop2 μ-loop2 Inv-loop μ-loop
 minus-requires c κs = ?
 
--- src/machine.rt:239:17
+-- src/machine.rt:232:17
 worked-requires : tie.Need-worked-requires Inv-loop2 μ-loop2 Inv-loop μ-loop
 worked-requires c κs = ?
 
--- src/machine.rt:240:29
+-- src/machine.rt:233:29
 minus-requires-2 : tie.Need-minus-requires-2 Inv-loop2 μ-loop2 Inv-loop μ-loop
 minus-requires-2 c κs = ?
 
--- src/machine.rt:241:13
+-- src/machine.rt:234:13
 mul-x : tie.Need-mul-x Inv-loop2 μ-loop2 Inv-loop μ-loop
 mul-x c = ?
 
--- src/machine.rt:241:13
+-- src/machine.rt:234:13
 element-set-from-x : tie.Need-element-set-from-x Inv-loop2 μ-loop2 Inv-loop μ-loop
 element-set-from-x c = ?
 
--- src/machine.rt:242:22
+-- src/machine.rt:235:22
 add-s : tie.Need-add-s Inv-loop2 μ-loop2 Inv-loop μ-loop
 add-s c = ?
 
@@ -368,79 +364,79 @@ loop-less-3 c = ?
 loop-again-3 : tie.Need-loop-again-3 Inv-loop2 μ-loop2 Inv-loop μ-loop
 loop-again-3 c = ?
 
--- src/machine.rt:248:61
+-- src/machine.rt:241:61
 mul-span : tie.Need-mul-span Inv-loop2 μ-loop2 Inv-loop μ-loop
 mul-span c = ?
 
--- src/machine.rt:248:61
+-- src/machine.rt:241:61
 element-copy-out-span : tie.Need-element-copy-out-span Inv-loop2 μ-loop2 Inv-loop μ-loop
 element-copy-out-span c = ?
 
--- src/machine.rt:248:43
-span-requires-3 : tie.Need-span-requires-3 Inv-loop2 μ-loop2 Inv-loop μ-loop
-span-requires-3 c κs = ?
+-- src/machine.rt:241:43
+span-requires-2 : tie.Need-span-requires-2 Inv-loop2 μ-loop2 Inv-loop μ-loop
+span-requires-2 c κs = ?
 
--- src/machine.rt:248:13
+-- src/machine.rt:241:13
 minus-requires-3 : tie.Need-minus-requires-3 Inv-loop2 μ-loop2 Inv-loop μ-loop
 minus-requires-3 c κs = ?
 
--- src/machine.rt:249:20
+-- src/machine.rt:242:20
 mul-gone : tie.Need-mul-gone Inv-loop2 μ-loop2 Inv-loop μ-loop
 mul-gone c = ?
 
--- src/machine.rt:249:20
+-- src/machine.rt:242:20
 element-copy-out-gone : tie.Need-element-copy-out-gone Inv-loop2 μ-loop2 Inv-loop μ-loop
 element-copy-out-gone c = ?
 
--- src/machine.rt:250:9
+-- src/machine.rt:243:9
 mul-n-3 : tie.Need-mul-n-3 Inv-loop2 μ-loop2 Inv-loop μ-loop
 mul-n-3 c = ?
 
--- src/machine.rt:250:9
+-- src/machine.rt:243:9
 element-set-from-n-2 : tie.Need-element-set-from-n-2 Inv-loop2 μ-loop2 Inv-loop μ-loop
 element-set-from-n-2 c = ?
 
--- src/machine.rt:251:37
+-- src/machine.rt:244:37
 mul-greater : tie.Need-mul-greater Inv-loop2 μ-loop2 Inv-loop μ-loop
 mul-greater c = ?
 
--- src/machine.rt:251:37
+-- src/machine.rt:244:37
 element-copy-out-greater : tie.Need-element-copy-out-greater Inv-loop2 μ-loop2 Inv-loop μ-loop
 element-copy-out-greater c = ?
 
--- src/machine.rt:251:22
+-- src/machine.rt:244:22
 greater-requires : tie.Need-greater-requires Inv-loop2 μ-loop2 Inv-loop μ-loop
 greater-requires c κs = ?
 
--- src/machine.rt:251:9
+-- src/machine.rt:244:9
 mul-s-4 : tie.Need-mul-s-4 Inv-loop2 μ-loop2 Inv-loop μ-loop
 mul-s-4 c = ?
 
--- src/machine.rt:251:9
+-- src/machine.rt:244:9
 element-write-s-4 : tie.Need-element-write-s-4 Inv-loop2 μ-loop2 Inv-loop μ-loop
 element-write-s-4 c = ?
 
--- src/machine.rt:254:9
+-- src/machine.rt:247:9
 mul-s-5 : tie.Need-mul-s-5 Inv-loop2 μ-loop2 Inv-loop μ-loop
 mul-s-5 c = ?
 
--- src/machine.rt:254:9
+-- src/machine.rt:247:9
 element-write-s-5 : tie.Need-element-write-s-5 Inv-loop2 μ-loop2 Inv-loop μ-loop
 element-write-s-5 c = ?
 
--- src/machine.rt:255:9
+-- src/machine.rt:248:9
 mul-s-6 : tie.Need-mul-s-6 Inv-loop2 μ-loop2 Inv-loop μ-loop
 mul-s-6 c = ?
 
--- src/machine.rt:255:9
+-- src/machine.rt:248:9
 element-write-s-6 : tie.Need-element-write-s-6 Inv-loop2 μ-loop2 Inv-loop μ-loop
 element-write-s-6 c = ?
 
--- src/machine.rt:256:21
+-- src/machine.rt:249:21
 without-requires : tie.Need-without-requires Inv-loop2 μ-loop2 Inv-loop μ-loop
 without-requires c κs = ?
 
--- src/machine.rt:257:18
+-- src/machine.rt:250:18
 least-requires : tie.Need-least-requires Inv-loop2 μ-loop2 Inv-loop μ-loop
 least-requires c κs = ?
 
@@ -509,8 +505,7 @@ run-spec =
     sooner-requires-5
     sooner-requires-6
     sooner-requires-7
-    span-requires
-    cast-stretch
+    sub-stretch
     stretch-requires
     loop-less-2
     loop-again-2
@@ -529,10 +524,10 @@ run-spec =
     load-requires
     finish-requires
     sooner-requires-8
-    span-requires-2
-    cast-stretch-2
+    span-requires
+    cast-stretch
     add-stretch
-    cast-stretch-3
+    cast-stretch-2
     stretch-requires-2
     minus-requires
     worked-requires
@@ -544,7 +539,7 @@ run-spec =
     loop-again-3
     mul-span
     element-copy-out-span
-    span-requires-3
+    span-requires-2
     minus-requires-3
     mul-gone
     element-copy-out-gone
