@@ -31,7 +31,12 @@ used-requires c κs = search needs
 
 -- src/turn.rt:16:1
 returns : tie.Need-returns
-returns c = ?
+returns c =
+    let begins = c .before in
+    let begun = begins .before in
+    let entry = begun .before in
+    let delay = entry .before in
+    simp (delay .delay .ensures, entry .entry .ensures, begun .begun .ensures, begins .begins .ensures, c .used .ensures)
 
 pub load-spec : {M : Type 1} → statement M
 load-spec =
