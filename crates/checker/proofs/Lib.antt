@@ -2,3 +2,4 @@ mod SoundTables
 mod Painted
 mod Replied
 mod InHand
+pub mod Begin
