@@ -1,5 +1,5 @@
 -- Rests on what the callees return: nothing wraps, as a key is no more than the largest deadline.
-use Prim.Native.Nat.{ℕ, _+_, _≤_, _<_}
+use Prim.Native.Nat.{ℕ, _+_, _≤_}
 use native.Mathlib.Omega.{arith}
 use borrow.Author.Needs.{needs}
 use lib.Dec.{eqb}

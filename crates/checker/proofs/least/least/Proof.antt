@@ -15,6 +15,9 @@ use Rattle.checker.proofs.least.least.Tie as tie
 further : (m x y : ℕ) → min m (min x y) ≡ min (min m x) y
 further m x y = omega arith
 
+one-by-one : (m a b c d : ℕ) → min m (min (min a b) (min c d)) ≡ min (min (min (min m a) b) c) d
+one-by-one m a b c d = rw (further m (min a b) (min c d), further m a b, further (min (min m a) b) c d)
+
 -- four places more
 four : (n : ℕ) (l : List ℕ) (m : ℕ) → Least n l m
     → Least (n + 4) l (min m (min (min (getD l n never) (getD l (n + 1) never)) (min (getD l (n + 2) never) (getD l (n + 3) never))))
@@ -23,7 +26,7 @@ four n l m h =
     let c : n + 2 ≡ suc (suc n) = omega arith in
     let d : n + 3 ≡ suc (suc (suc n)) = omega arith in
     let e : n + 4 ≡ suc (suc (suc (suc n))) = omega arith in
-    rw (further m (min (getD l n never) (getD l (n + 1) never)) (min (getD l (n + 2) never) (getD l (n + 3) never)), further m (getD l n never) (getD l (n + 1) never), further (min (min m (getD l n never)) (getD l (n + 1) never)) (getD l (n + 2) never) (getD l (n + 3) never), b, c, d, e)
+    rw (one-by-one m (getD l n never) (getD l (n + 1) never) (getD l (n + 2) never) (getD l (n + 3) never), b, c, d, e)
     (least-more _ l _ (least-more _ l _ (least-more _ l _ (least-more n l m h))))
 
 -- a place as the code reads it
@@ -108,8 +111,9 @@ loop-again c =
     let first = pair .before .before .before in
     let at = first .before .before .before .before .loop in
     let a = first .before .before .before .before .before .args .a .now in
-    let n : 4 * (at .j + 1) ≡ 4 * at .j + 4 = omega arith in
-    (search needs, at .inv .1, rw (n, c .sooner4 .ensures, c .before .sooner3 .ensures, pair .sooner2 .ensures, first .sooner .ensures, inside a (at .inv .1) (4 * at .j) (omega arith), inside a (at .inv .1) (4 * at .j + 1) (omega arith), inside a (at .inv .1) (4 * at .j + 2) (omega arith), inside a (at .inv .1) (4 * at .j + 3) (omega arith)) (four (4 * at .j) a (at .m) (at .inv .2)))
+    let turn : 4 * (at .j + 1) ≡ 4 * at .j + 4 = omega arith in
+    let read = inside a (at .inv .1) in
+    (search needs, at .inv .1, rw (turn, c .sooner4 .ensures, c .before .sooner3 .ensures, pair .sooner2 .ensures, first .sooner .ensures, read (4 * at .j) (omega arith), read (4 * at .j + 1) (omega arith), read (4 * at .j + 2) (omega arith), read (4 * at .j + 3) (omega arith)) (four (4 * at .j) a (at .m) (at .inv .2)))
 
 returns : tie.Need-returns Inv-loop μ-loop
 returns c =
