@@ -1,4 +1,5 @@
 pub mod Arms
+pub mod Begin
 pub mod Bytes
 pub mod Going
 pub mod InHand

@@ -1,15 +1,14 @@
+-- Rests on the test, which is the definition's.
+use borrow.Author.Tests.{eq-eqb, ne-eqb}
+use borrow.Author.Needs.{needs}
 use Rattle.checker.proofs.join.top.Statement.{statement}
 use Rattle.checker.proofs.join.top.Tie as tie
-use Rattle.checker.proofs.join.top.Reads as reads
-use Rattle.checker.proofs.join.top.Lts as lts
 
--- src/join.rt:38:9
 returns : tie.Need-returns
-returns c = ?
+returns c = search (needs, eq-eqb)
 
--- src/join.rt:34:1
 returns-2 : tie.Need-returns-2
-returns-2 c = ?
+returns-2 c = search (needs, ne-eqb)
 
 pub top-spec : {M : Type 1} → statement M
 top-spec = tie.close (tie.spec returns returns-2)

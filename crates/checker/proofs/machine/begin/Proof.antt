@@ -1,74 +1,70 @@
+-- Rests on the laws of `Begun`: its start, its turn and its end.
+use mathlib.Core.Path.{_≡_}
+use Prim.Native.Nat.{_-_, _≤_}
+use native.Mathlib.Omega.{arith}
+use borrow.Author.Needs.{needs}
+use Rattle.checker.proofs.SoundTables.{count-top}
+use Rattle.checker.proofs.Begin.{Begun, begun-start, begun-turn, begun-at}
 use Rattle.checker.proofs.machine.begin.Statement.{statement}
 use Rattle.checker.proofs.machine.begin.Tie as tie
-use Rattle.checker.proofs.machine.begin.Reads as reads
-use Rattle.checker.proofs.machine.begin.Lts as lts
-use Rattle.slots.proofs.sooner.Reads as sooner-reads
 
 abbrev Inv-loop : tie.InvT-loop
-Inv-loop t s₀ rows i₀ s i = ?
+Inv-loop t s₀ rows i₀ s i = (i ≤ t .count) × (t .count ≤ 16) × Begun t i s
 
 abbrev μ-loop : tie.MeasureT-loop
-μ-loop t s₀ rows i₀ s i = ?
+μ-loop t s₀ rows i₀ s i = t .count - i
 
--- src/machine.rt:68:5
 loop-holds : tie.Need-loop-holds Inv-loop μ-loop
-loop-holds c = ?
+loop-holds c = (search needs, count-top (c .args .t1) (c .pre), begun-start (c .args .t1))
 
--- src/machine.rt:69:17
 mul-r : tie.Need-mul-r Inv-loop μ-loop
-mul-r c = ?
+mul-r c = search needs
 
--- src/machine.rt:69:17
 element-copy-out-r : tie.Need-element-copy-out-r Inv-loop μ-loop
-element-copy-out-r c = ?
+element-copy-out-r c = search needs
 
--- src/machine.rt:71:17
 cast-o : tie.Need-cast-o Inv-loop μ-loop
-cast-o c = ?
+cast-o c = search needs
 
--- src/machine.rt:72:9
 mul-s : tie.Need-mul-s Inv-loop μ-loop
-mul-s c = ?
+mul-s c = search needs
 
--- src/machine.rt:72:9
 element-write-s : tie.Need-element-write-s Inv-loop μ-loop
-element-write-s c = ?
+element-write-s c = search needs
 
--- src/machine.rt:73:9
 mul-e : tie.Need-mul-e Inv-loop μ-loop
-mul-e c = ?
+mul-e c = search needs
 
--- src/machine.rt:73:9
 element-set-from-e : tie.Need-element-set-from-e Inv-loop μ-loop
-element-set-from-e c = ?
+element-set-from-e c = search needs
 
--- src/machine.rt:74:9
 mul-e-2 : tie.Need-mul-e-2 Inv-loop μ-loop
-mul-e-2 c = ?
+mul-e-2 c = search needs
 
--- src/machine.rt:74:9
 element-set-from-e-2 : tie.Need-element-set-from-e-2 Inv-loop μ-loop
-element-set-from-e-2 c = ?
+element-set-from-e-2 c = search needs
 
--- src/machine.rt:75:18
 sooner-requires : tie.Need-sooner-requires Inv-loop μ-loop
-sooner-requires c κs = ?
+sooner-requires c κs = search needs
 
--- src/machine.rt:76:9
 add-i : tie.Need-add-i Inv-loop μ-loop
-add-i c = ?
+add-i c = search needs
 
--- src/machine.rt:68:5
 loop-less : tie.Need-loop-less Inv-loop μ-loop
-loop-less c = ?
+loop-less c = search needs
 
--- src/machine.rt:68:5
 loop-again : tie.Need-loop-again Inv-loop μ-loop
-loop-again c = ?
+loop-again c =
+    let at = c .before .before .before .before .loop in
+    let t = c .before .before .before .before .before .args .t1 in
+    (search needs, at .inv .1, begun-turn t (at .i) (omega arith) (at .inv .1) (at .s) (at .inv .2) _ (c .sooner .ensures))
 
--- src/machine.rt:44:1
 returns : tie.Need-returns Inv-loop μ-loop
-returns c = ?
+returns c =
+    let at = c .before .loop in
+    let start = c .before .before in
+    let whole : at .i ≡ start .args .t1 .count = omega arith in
+    begun-at (start .args .t1) (start .pre) (at .s) (rw whole at (at .inv .2))
 
 pub begin-spec : {M : Type 1} → statement M
 begin-spec =
