@@ -1,7 +1,7 @@
 -- The state at time 0. The loop of `begin` fills in one row after the other: the first release at the offset, and a job that is
 -- complete, so no deadline and no key. Once all rows are filled in, the state stands for the rules' begin.
 use mathlib.Core.Path.{_≡_, refl, sym, ap, _∙_, subst}
-use mathlib.Core.Logic.{_⊎_, inl, inr, _≢_}
+use mathlib.Core.Logic.{inl, _≢_}
 use mathlib.Core.List.{List}
 use Prim.Native.Nat.{ℕ, zero, suc, _+_, _≤_, _<_, min}
 use native.Mathlib.Omega.{arith}
@@ -16,60 +16,15 @@ use Rattle.rules.specs.Table.{noRow}
 use Rattle.rules.specs.Policies as policies
 use Rattle.rules.specs.Slots as rules
 use Rattle.rules.specs.AsRun.{asRun}
-use Rattle.basics.specs.Cases.{le-case, eq-case, clash, upto}
+use Rattle.basics.specs.Cases.{clash}
 use Rattle.theory.specs.Counters.{until}
 use Rattle.theory.specs.Completions.{seen-start}
 use Rattle.slots.specs.Jobs.{never}
 use Rattle.checker.specs.declared.machine.State.{State}
 use Rattle.checker.specs.Least.{Least}
 use Rattle.checker.specs.Machine.{live, Sound, systemIn, stateAt, nothing, releaseIn, dueIn, keyIn, TaskAt, At}
+use Rattle.checker.proofs.Minima.{least-put}
 use Rattle.checker.proofs.SoundTables.{row-in}
-
--- LEAST
-
-pub least-none : (l : List ℕ) → Least 0 l never
-least-none l = record { low = λ i h. absurd (omega arith); top = omega arith; hit = inl refl }
-
--- one place more
-pub least-more : (n : ℕ) (l : List ℕ) (m : ℕ) → Least n l m → Least (suc n) l (min m (getD l n never))
-least-more n l m h = le-case m (getD l n never)
-    (λ e. let q : min m (getD l n never) ≡ m = omega arith in
-    rw q (record { low = upto (λ i. m ≤ getD l i never) n (h .low) e; top = h .top; hit = wider (h .hit) }))
-    (λ e. let q : min m (getD l n never) ≡ getD l n never = omega arith in
-    rw q (record {
-      low = upto (λ i. getD l n never ≤ getD l i never) n (λ i k. omega (arith, h .low i k)) (omega arith);
-      top = omega (arith, h .top);
-      hit = inr (n, omega arith, refl);
-    }))
-  where
-    wider : (m ≡ never) ⊎ ((i : ℕ) × (i < n) × (getD l i never ≡ m)) → (m ≡ never) ⊎ ((i : ℕ) × (i < suc n) × (getD l i never ≡ m))
-    wider (inl e) = inl e
-    wider (inr k) = inr (k .0, omega (arith, k .1), k .2)
-
-module _ (n : ℕ) (l : List ℕ) (m i : ℕ) (inside : i < length l) (h : Least n l m) where
-  -- a place that was empty holds x
-  pub least-put : (x : ℕ) → i < n → getD l i never ≡ never → Least n (set l i x) (min m x)
-  least-put x below empty = le-case m x
-      (λ e. let q : min m x ≡ m = omega arith in rw q (record {
-        low = λ k b. eq-case k i
-            (λ g. rw (g, getD-set-same l i x never inside) e)
-            (λ g. rw (getD-set-other l i k x never g) (h .low k b));
-        top = h .top;
-        hit = go (h .hit);
-      }))
-      (λ e. let q : min m x ≡ x = omega arith in rw q (record {
-        low = λ k b. eq-case k i
-            (λ g. rw (g, getD-set-same l i x never inside) (omega arith))
-            (λ g. rw (getD-set-other l i k x never g) (omega (arith, h .low k b)));
-        top = omega (arith, h .top);
-        hit = inr (i, below, getD-set-same l i x never inside);
-      }))
-    where
-      go : (m ≡ never) ⊎ ((k : ℕ) × (k < n) × (getD l k never ≡ m)) → (m ≡ never) ⊎ ((k : ℕ) × (k < n) × (getD (set l i x) k never ≡ m))
-      go (inl q) = inl q
-      go (inr y) = eq-case (y .0) i
-          (λ g. inl (sym (rw g at (y .2)) ∙ empty))
-          (λ g. inr (y .0, y .1, getD-set-other l i (y .0) x never g ∙ y .2))
 
 -- NOTHING IS FILLED IN
 

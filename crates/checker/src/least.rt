@@ -3,6 +3,7 @@
 ghost use mathlib.Core.Path.{_≡_};
 ghost use mathlib.Core.Logic.{_≢_};
 ghost use Prim.Native.Nat.{_*_, _≤_};
+ghost use lib.ListN.{length};
 ghost use Rattle.checker.specs.Least.{Least};
 
 // The blocks of four that hold so many rows.
@@ -23,7 +24,7 @@ pub fn blocks(rows: usize) -> usize
 }
 
 pub fn least(count: usize, a: &[u64; 16]) -> u64
-    requires { ⌜ count ≤ 4 ⌝ }
+    requires { ⌜ (count ≤ 4) × (length (now a) ≡ 16) ⌝ }
     ensures { λ r. ⌜ Least (4 * count) (now (a .entry)) r ⌝ }
 {
     let mut m = slots::NEVER;
@@ -39,7 +40,7 @@ pub fn least(count: usize, a: &[u64; 16]) -> u64
 
 // The least once `gone` is no longer in the array, where it was m before.
 pub fn without(count: usize, a: &[u64; 16], gone: u64, m: u64) -> u64
-    requires { ⌜ count ≤ 4 ⌝ }
+    requires { ⌜ (count ≤ 4) × (length (now a) ≡ 16) ⌝ }
     ensures { λ r. ⌜ (gone ≡ m → Least (4 * count) (now (a .entry)) r) × (gone ≢ m → r ≡ m) ⌝ }
 {
     if gone == m {

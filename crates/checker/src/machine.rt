@@ -3,7 +3,7 @@ ghost use mathlib.Core.Path.{_≡_};
 ghost use mathlib.Core.Logic.{_⊎_};
 ghost use mathlib.Core.List.{List};
 ghost use Prim.Native.Nat.{ℕ, _-_, _≤_};
-ghost use lib.ListN.{getD};
+ghost use lib.ListN.{getD, length};
 ghost use Rattle.rules.specs.Table.{noRow};
 ghost use Rattle.slots.specs.Jobs.{never};
 ghost use Rattle.checker.specs.Machine.{Sound, At, firstDue, Ran, PaintedRun};
@@ -80,7 +80,7 @@ pub fn begin(t: Table) -> State
 
 // The first with its deadline at a time: 0 for none, i + 1 for row i.
 fn overdue(rows: usize, due: &[u64; 16], time: u64) -> usize
-    requires { ⌜ rows ≤ 16 ⌝ }
+    requires { ⌜ (rows ≤ 16) × (length (now due) ≡ 16) ⌝ }
     ensures { λ r. ⌜ r ≡ firstDue rows (now (due .entry)) time ⌝ }
 {
     let mut miss: usize = 0;

@@ -8,7 +8,7 @@ use lib.ListN.{length, getD}
 use Rattle.basics.specs.Lists.{any-default}
 use Rattle.slots.specs.Jobs.{never}
 use Rattle.checker.specs.Least.{Least}
-use Rattle.checker.proofs.Begin.{least-none, least-more}
+use Rattle.checker.proofs.Minima.{least-none, least-more}
 use Rattle.checker.proofs.least.least.Statement.{statement}
 use Rattle.checker.proofs.least.least.Tie as tie
 
@@ -40,7 +40,7 @@ abbrev μ-loop : tie.MeasureT-loop
 μ-loop count a m₀ j₀ m j = count - j
 
 loop-holds : tie.Need-loop-holds Inv-loop μ-loop
-loop-holds c = (search needs, ?, least-none _)
+loop-holds c = (search needs, c .pre .1, least-none _)
 
 mul-sooner : tie.Need-mul-sooner Inv-loop μ-loop
 mul-sooner c = search needs

@@ -31,7 +31,7 @@ abbrev μ-loop : tie.MeasureT-loop
 μ-loop rows due time miss₀ i₀ miss i = rows - i
 
 loop-holds : tie.Need-loop-holds Inv-loop μ-loop
-loop-holds c = (search needs, ?, refl)
+loop-holds c = (search needs, c .pre .1, refl)
 
 mul-missed : tie.Need-mul-missed Inv-loop μ-loop
 mul-missed c = search needs
