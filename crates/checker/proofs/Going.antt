@@ -263,7 +263,7 @@ module _ (p : ℕ) (t : Table) (sound : Sound t) (xs zs : List ℕ) (first : ℕ
                   (soonest : ℕ) (soon : (getD (s₁ .due) i never ≡ s₁ .soonest → Least (4 * blocks) (set (s₁ .due) i never) soonest)
                   × (getD (s₁ .due) i never ≢ s₁ .soonest → soonest ≡ s₁ .soonest))
                   (best : ℕ) (next-best : Least (4 * blocks) (set (s₁ .key) i never) best) where
-                full-after : u < full
+                pub full-after : u < full
                 full-after = rw fills (beyond u (l .slots .0) (needIn s₁ i - executedIn s₁ i) free)
                   where
                     beyond : (a c e : ℕ) → 0 < e → a < a + c + e

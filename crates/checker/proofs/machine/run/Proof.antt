@@ -1,452 +1,591 @@
+-- The loop over events: `Going` holds at its head, and `Passing` in the pass over the rows. Each way through a turn is a law of `Going`.
+use mathlib.Core.Path.{_≡_, refl, sym, ap, _∙_}
+use mathlib.Core.Bool.{Bool, true, false, cond}
+use Prim.Native.Nat.{ℕ, suc, _+_, _-_, _*_, _%_, _≤_, _<_, min, max}
+use native.Mathlib.Omega.{arith}
+use native.Mathlib.Numerals.{add-one}
+use borrow.Author.Needs.{needs}
+use borrow.Author.Tests.{eq-eqb, ne-eqb}
+use lib.Dec.{eqb}
+use lib.ListN.{getD, length, length-set}
+use Rattle.rules.specs.Table.{noRow}
+use Rattle.basics.specs.Cases.{eq-case}
+use Rattle.basics.specs.Lists.{any-default}
+use Rattle.slots.specs.Jobs.{never, workedOf}
+use Rattle.checker.specs.Turns.{topOf}
+use Rattle.checker.proofs.SoundTables.{count-top, hyper-some, row-in}
+use Rattle.checker.proofs.Pass.{Passing, passing-by, passing-joins, released-later, withNext, Onward, onward-start, onward-by, onward-joins, passes, ready}
+use Rattle.checker.proofs.Who.{who-first}
+use Rattle.checker.proofs.Going.{Going, going-start, ran-missed, ran-repeats, going-marked, ran-through, passing-now, stop-after, going-idle, going-goes, full-after, going-ends}
 use Rattle.checker.proofs.machine.run.Statement.{statement}
 use Rattle.checker.proofs.machine.run.Tie as tie
-use Rattle.checker.proofs.machine.run.Reads as reads
-use Rattle.checker.proofs.machine.run.Lts as lts
-use Rattle.checker.proofs.join.from.Reads as from-reads
-use Rattle.checker.proofs.join.join.Reads as join-reads
-use Rattle.checker.proofs.join.top.Reads as top-reads
-use Rattle.checker.proofs.least.blocks.Reads as blocks-reads
-use Rattle.checker.proofs.least.least.Reads as least-reads
-use Rattle.checker.proofs.least.without.Reads as without-reads
-use Rattle.checker.proofs.machine.begin.Reads as begin-reads
-use Rattle.checker.proofs.machine.overdue.Reads as overdue-reads
-use Rattle.checker.proofs.marks.before.Reads as before-reads
-use Rattle.checker.proofs.marks.same.Reads as same-reads
-use Rattle.checker.proofs.paint.stretch.Reads as stretch-reads
-use Rattle.checker.proofs.turn.finish.Reads as finish-reads
-use Rattle.checker.proofs.turn.load.Reads as load-reads
-use Rattle.slots.proofs.continues.Reads as continues-reads
-use Rattle.slots.proofs.entry.Reads as entry-reads
-use Rattle.slots.proofs.greater.Reads as greater-reads
-use Rattle.slots.proofs.minus.Reads as minus-reads
-use Rattle.slots.proofs.sooner.Reads as sooner-reads
-use Rattle.slots.proofs.span.Reads as span-reads
-use Rattle.slots.proofs.used.Reads as used-reads
-use Rattle.slots.proofs.worked.Reads as worked-reads
+
+-- THE MEASURE: twice the time that is left, and one more where a mark is to be compared
+
+bit : (b : Bool) → cond b 1 0 ≤ 1
+bit true = omega arith
+bit false = omega arith
+
+measure-on : (end u v mark : ℕ) → u < v → v ≤ end → 2 * (end - v) + cond (eqb mark v) 1 0 < 2 * (end - u) + cond (eqb mark u) 1 0
+measure-on end u v mark h k = omega (arith, bit (eqb mark v))
+
+measure-marks : (end u mark h : ℕ) → mark ≡ u → 0 < h → 2 * (end - u) + cond (eqb (u + h) u) 1 0 < 2 * (end - u) + cond (eqb mark u) 1 0
+measure-marks end u mark h e some = rw (eq-eqb mark u e, ne-eqb (u + h) u (λ z. omega arith)) (omega arith)
+
+-- PLACES
+
+top-low : (next u rows top : ℕ) → top ≡ topOf next u rows → rows ≤ 16 → top ≤ 16
+top-low next u rows top e h = eq-case next u
+    (λ q. let z = rw (eq-eqb next u q) at e in omega arith)
+    (λ q. let z = rw (ne-eqb next u q) at e in omega arith)
+
+in-rows : (next u rows top i : ℕ) → top ≡ topOf next u rows → i < top → i < rows
+in-rows next u rows top i e h = eq-case next u
+    (λ q. let z = rw (eq-eqb next u q) at e in omega arith)
+    (λ q. let z = rw (ne-eqb next u q) at e in absurd (omega arith))
+
+in-array : {i rows : ℕ} → i < rows → rows ≤ 16 → i < 16
+in-array h k = omega arith
+
+long-enough : {n i : ℕ} → n ≡ 16 → i < 16 → i < n
+long-enough e h = omega arith
+
+row-low : (b : ℕ) → b % 16 < 16
+row-low b = omega arith
+
+less-most : {a b : ℕ} → a < b → a ≤ b
+less-most h = omega arith
+
+at-most-end : {u end : ℕ} → u ≤ end → end ≤ 281474976710656 → u ≤ 281474976710656
+at-most-end h k = omega arith
 
 abbrev Inv-loop2 : tie.InvT-loop2
 Inv-loop2 policy first end requests loadings slots t rows blocks hyper s₀ was mark time top next₀ i₀ s next i =
-    ?
+    (i ≤ top) × (top ≤ 16) × Passing policy t requests loadings time s₀ i s × Onward time s₀ i s next
 
 abbrev μ-loop2 : tie.MeasureT-loop2
-μ-loop2 policy first end requests loadings slots t rows blocks hyper s₀ was mark time top next₀ i₀ s next i =
-    ?
+μ-loop2 policy first end requests loadings slots t rows blocks hyper s₀ was mark time top next₀ i₀ s next i = top - i
 
 abbrev Inv-loop : tie.InvT-loop
 Inv-loop policy first end requests loadings slots₀ t rows blocks hyper s₀ was₀ mark₀ time₀ slots s was mark time =
-    ?
+    (time ≤ end) × (t .count ≤ 16) × (length slots ≡ length slots₀) × Going policy t requests loadings first end slots₀ slots s was mark time
 
 abbrev μ-loop : tie.MeasureT-loop
-μ-loop policy first end requests loadings slots₀ t rows blocks hyper s₀ was₀ mark₀ time₀ slots s was mark time =
-    ?
+μ-loop policy first end requests loadings slots₀ t rows blocks hyper s₀ was₀ mark₀ time₀ slots s was mark time = 2 * (end - time) + cond (eqb mark time) 1 0
 
--- src/machine.rt:132:9
 blocks-requires : tie.Need-blocks-requires Inv-loop2 μ-loop2 Inv-loop μ-loop
-blocks-requires c κs = ?
+blocks-requires c κs = search needs
 
--- src/machine.rt:133:17
 cast-hyper : tie.Need-cast-hyper Inv-loop2 μ-loop2 Inv-loop μ-loop
-cast-hyper c = ?
+cast-hyper c = search needs
 
--- src/machine.rt:134:17
 begin-requires : tie.Need-begin-requires Inv-loop2 μ-loop2 Inv-loop μ-loop
-begin-requires c κs = ?
+begin-requires c κs = search needs
 
--- src/machine.rt:135:9
 before-requires : tie.Need-before-requires Inv-loop2 μ-loop2 Inv-loop μ-loop
-before-requires c κs = ?
+before-requires c κs = search needs
 
--- src/machine.rt:138:5
 loop-holds : tie.Need-loop-holds Inv-loop2 μ-loop2 Inv-loop μ-loop
-loop-holds c = ?
+loop-holds c =
+    let start = c .before .before .before .before .before .before in
+    let a = start .args in (
+      search needs,
+      count-top (a .t1) (start .pre .0),
+      refl,
+      going-start (a .policy) (a .t1) (start .pre .0) (a .requests .now) (a .loadings .now) (a .first) (start .pre .1 .0) (a .end) (start .pre .1 .1) _ _ (c .before .begin .ensures (a .policy) (a .requests .now) (a .loadings .now)) _ (c .before2 .ensures),
+    )
 
--- src/machine.rt:140:17
 overdue-requires : tie.Need-overdue-requires Inv-loop2 μ-loop2 Inv-loop μ-loop
-overdue-requires c κs = ?
+overdue-requires c κs = search needs
 
--- src/machine.rt:141:13
 same-length : tie.Need-same-length Inv-loop2 μ-loop2 Inv-loop μ-loop
-same-length c = ?
+same-length c = search needs
 
--- src/machine.rt:141:13
 returns : tie.Need-returns Inv-loop2 μ-loop2 Inv-loop μ-loop
-returns c = ?
+returns c =
+    let start = c .before .before .before .before .before .before .before .before .before .before .before in
+    let a = start .args in
+    let at = c .before .before .before .before .loop in
+    (ran-missed (a .policy) (a .t1) (start .pre .0) (a .requests .now) (a .loadings .now) (a .first) (start .pre .1 .0) (a .end) (start .pre .1 .1) _ (at .slots) (at .s) (at .was) (at .mark) (at .time) (at .inv .3) (c .before .before .before .if1 .taken) _ (c .overdue .ensures), at .inv .3 .painted)
 
--- src/machine.rt:156:16
 same-requires : tie.Need-same-requires Inv-loop2 μ-loop2 Inv-loop μ-loop
-same-requires c κs = ?
+same-requires c κs = search needs
 
--- src/machine.rt:157:17
 same-length-2 : tie.Need-same-length-2 Inv-loop2 μ-loop2 Inv-loop μ-loop
-same-length-2 c = ?
+same-length-2 c = search needs
 
--- src/machine.rt:157:17
 returns-2 : tie.Need-returns-2 Inv-loop2 μ-loop2 Inv-loop μ-loop
-returns-2 c = ?
+returns-2 c =
+    let start = c .before .before .before .before .before .before .before .before .before .before .before .before .before in
+    let a = start .args in
+    let at = c .before .before .before .before .before .before .loop in
+    let on-time = c .before .before .before .before .before .if1 .left in
+    (ran-repeats (a .policy) (a .t1) (start .pre .0) (a .requests .now) (a .loadings .now) (a .first) (start .pre .1 .0) (a .end) (start .pre .1 .1) _ (at .slots) (at .s) (at .was) (at .mark) (at .time) (at .inv .3) on-time (c .before .before .before .before .if2 .taken) (c .before .same .ensures .0 (c .if3 .taken)), at .inv .3 .painted)
 
--- src/machine.rt:165:20
 add-mark : tie.Need-add-mark Inv-loop2 μ-loop2 Inv-loop μ-loop
-add-mark c = ?
+add-mark c = search needs
 
--- src/machine.rt:138:5
 loop-less : tie.Need-loop-less Inv-loop2 μ-loop2 Inv-loop μ-loop
-loop-less c = ?
+loop-less c =
+    let start = c .before .before .before .before .before .before .before .before .before .before .before .before .before in
+    let a = start .args in
+    let at = c .before .before .before .before .before .before .loop in
+    measure-marks (a .end) (at .time) (at .mark) (a .t1 .hyper) (c .before .before .before .before .if2 .taken) (hyper-some (a .t1) (start .pre .0))
 
--- src/machine.rt:138:5
 loop-again : tie.Need-loop-again Inv-loop2 μ-loop2 Inv-loop μ-loop
-loop-again c = ?
+loop-again c =
+    let start = c .before .before .before .before .before .before .before .before .before .before .before .before .before in
+    let a = start .args in
+    let at = c .before .before .before .before .before .before .loop in
+    let on-time = c .before .before .before .before .before .if1 .left in
+    (at .inv .0, at .inv .1, at .inv .2, going-marked (a .policy) (a .t1) (start .pre .0) (a .requests .now) (a .loadings .now) (a .first) (start .pre .1 .0) (a .end) (start .pre .1 .1) _ (at .slots) (at .s) (at .was) (at .mark) (at .time) (at .inv .3) on-time (c .before .before .before .before .if2 .taken) (c .before .same .ensures .1 (c .if3 .left)))
 
--- src/machine.rt:169:13
 same-length-3 : tie.Need-same-length-3 Inv-loop2 μ-loop2 Inv-loop μ-loop
-same-length-3 c = ?
+same-length-3 c = search needs
 
--- src/machine.rt:169:13
 returns-3 : tie.Need-returns-3 Inv-loop2 μ-loop2 Inv-loop μ-loop
-returns-3 c = ?
+returns-3 c =
+    let start = c .before .before .before .before .before .before .before .before .before .before in
+    let a = start .args in
+    let at = c .before .before .before .loop in
+    let on-time = c .before .before .if1 .left in
+    let later = c .before .if2 .left in
+    (ran-through (a .policy) (a .t1) (start .pre .0) (a .requests .now) (a .loadings .now) (a .first) (start .pre .1 .0) (a .end) (start .pre .1 .1) _ (at .slots) (at .s) (at .was) (at .mark) (at .time) (at .inv .3) on-time later (c .if4 .taken), at .inv .3 .painted)
 
--- src/machine.rt:176:13
 top-requires : tie.Need-top-requires Inv-loop2 μ-loop2 Inv-loop μ-loop
-top-requires c κs = ?
+top-requires c κs = search needs
 
--- src/machine.rt:177:13
 from-requires : tie.Need-from-requires Inv-loop2 μ-loop2 Inv-loop μ-loop
-from-requires c κs = ?
+from-requires c κs = search needs
 
--- src/machine.rt:179:9
 loop2-holds : tie.Need-loop2-holds Inv-loop2 μ-loop2 Inv-loop μ-loop
-loop2-holds c = ?
+loop2-holds c =
+    let start = c .before .before .before .before .before .before .before .before .before .before .before .before in
+    let a = start .args in
+    let at = c .before .before .before .before .before .loop in
+    let on-time = c .before .before .before .before .if1 .left in
+    let later = c .before .before .before .if2 .left in
+    (search needs, top-low (at .s .next) (at .time) (a .t1 .count) _ (c .before .top .ensures) (at .inv .1), passing-now (a .policy) (a .t1) (start .pre .0) (a .requests .now) (a .loadings .now) (a .first) (start .pre .1 .0) (a .end) (start .pre .1 .1) _ (at .slots) (at .s) (at .was) (at .mark) (at .time) (at .inv .3) on-time later, onward-start (at .time) (at .s) _ (c .from .ensures))
 
--- src/machine.rt:180:27
 mul-release : tie.Need-mul-release Inv-loop2 μ-loop2 Inv-loop μ-loop
-mul-release c = ?
+mul-release c = search needs
 
--- src/machine.rt:180:27
 element-copy-out-release : tie.Need-element-copy-out-release Inv-loop2 μ-loop2 Inv-loop μ-loop
-element-copy-out-release c = ?
+element-copy-out-release c = search needs
 
--- src/machine.rt:182:25
 mul-r : tie.Need-mul-r Inv-loop2 μ-loop2 Inv-loop μ-loop
-mul-r c = ?
+mul-r c = search needs
 
--- src/machine.rt:182:25
 element-copy-out-r : tie.Need-element-copy-out-r Inv-loop2 μ-loop2 Inv-loop μ-loop
-element-copy-out-r c = ?
+element-copy-out-r c = search needs
 
--- src/machine.rt:183:21
 entry-requires : tie.Need-entry-requires Inv-loop2 μ-loop2 Inv-loop μ-loop
-entry-requires c κs = ?
+entry-requires c κs = search needs
 
--- src/machine.rt:184:21
 join-requires : tie.Need-join-requires Inv-loop2 μ-loop2 Inv-loop μ-loop
-join-requires c κs = ?
+join-requires c κs = search needs
 
--- src/machine.rt:187:17
 mul-n : tie.Need-mul-n Inv-loop2 μ-loop2 Inv-loop μ-loop
-mul-n c = ?
+mul-n c = search needs
 
--- src/machine.rt:187:17
 element-set-from-n : tie.Need-element-set-from-n Inv-loop2 μ-loop2 Inv-loop μ-loop
-element-set-from-n c = ?
+element-set-from-n c = search needs
 
--- src/machine.rt:188:17
 mul-z : tie.Need-mul-z Inv-loop2 μ-loop2 Inv-loop μ-loop
-mul-z c = ?
+mul-z c = search needs
 
--- src/machine.rt:188:17
 element-set-from-z : tie.Need-element-set-from-z Inv-loop2 μ-loop2 Inv-loop μ-loop
-element-set-from-z c = ?
+element-set-from-z c = search needs
 
--- src/machine.rt:189:17
 mul-s : tie.Need-mul-s Inv-loop2 μ-loop2 Inv-loop μ-loop
-mul-s c = ?
+mul-s c = search needs
 
--- src/machine.rt:189:17
 element-write-s : tie.Need-element-write-s Inv-loop2 μ-loop2 Inv-loop μ-loop
-element-write-s c = ?
+element-write-s c = search needs
 
--- src/machine.rt:190:17
 mul-s-2 : tie.Need-mul-s-2 Inv-loop2 μ-loop2 Inv-loop μ-loop
-mul-s-2 c = ?
+mul-s-2 c = search needs
 
--- src/machine.rt:190:17
 element-write-s-2 : tie.Need-element-write-s-2 Inv-loop2 μ-loop2 Inv-loop μ-loop
-element-write-s-2 c = ?
+element-write-s-2 c = search needs
 
--- src/machine.rt:191:17
 mul-s-3 : tie.Need-mul-s-3 Inv-loop2 μ-loop2 Inv-loop μ-loop
-mul-s-3 c = ?
+mul-s-3 c = search needs
 
--- src/machine.rt:191:17
 element-write-s-3 : tie.Need-element-write-s-3 Inv-loop2 μ-loop2 Inv-loop μ-loop
-element-write-s-3 c = ?
+element-write-s-3 c = search needs
 
--- src/machine.rt:192:29
 sooner-requires : tie.Need-sooner-requires Inv-loop2 μ-loop2 Inv-loop μ-loop
-sooner-requires c κs = ?
+sooner-requires c κs = search needs
 
--- src/machine.rt:193:26
 sooner-requires-2 : tie.Need-sooner-requires-2 Inv-loop2 μ-loop2 Inv-loop μ-loop
-sooner-requires-2 c κs = ?
+sooner-requires-2 c κs = search needs
 
--- src/machine.rt:194:27
 used-requires : tie.Need-used-requires Inv-loop2 μ-loop2 Inv-loop μ-loop
-used-requires c κs = ?
+used-requires c κs = search needs
 
--- src/machine.rt:195:17
 sooner-requires-3 : tie.Need-sooner-requires-3 Inv-loop2 μ-loop2 Inv-loop μ-loop
-sooner-requires-3 c κs = ?
+sooner-requires-3 c κs = search needs
 
--- src/machine.rt:196:17
 add-i : tie.Need-add-i Inv-loop2 μ-loop2 Inv-loop μ-loop
-add-i c = ?
+add-i c = search needs
 
--- src/machine.rt:179:9
 loop2-less : tie.Need-loop2-less Inv-loop2 μ-loop2 Inv-loop μ-loop
-loop2-less c = ?
+loop2-less c = search needs
 
--- src/machine.rt:179:9
 loop2-again : tie.Need-loop2-again Inv-loop2 μ-loop2 Inv-loop μ-loop
-loop2-again c = ?
+loop2-again c =
+    let start = c .before .before .before .before .before .before .before .before .before .before .before .before .before .before .before .before .before .before .before .before .before .before .before .before in
+    let a = start .args in
+    let at = c .before .before .before .before .before .before .before .before .before .before .before .before .before .before .before .before .before .loop in
+    let at2 = c .before .before .before .before .before .before .before .before .before .before .before .loop2 in
+    let inside = c .before .before .before .before .before .before .before .before .before .before .loop2-test .taken in
+    let top = c .before .before .before .before .before .before .before .before .before .before .before .before .before .top .ensures in
+    let below = in-rows (at .s .next) (at .time) (a .t1 .count) _ (at2 .i) top inside in
+    let now = passes _ (at .time) (a .t1 .count) (at2 .i) (rw top at inside) in
+    let long = long-enough (at2 .inv .2 .full .release) (in-array below (at .inv .1)) in
+    let released = any-default (at2 .s .release) (at2 .i) never 0 long ∙ c .before .before .before .before .before .before .before .before .if5 .taken in
+    let ask = c .before .before .before .before .before .before .entry .ensures in
+    let j = c .before .before .before .before .before .join .ensures in
+    rw (add-one (at2 .i), c .sooner3 .ensures, c .before .used .ensures, c .before .before .sooner2 .ensures, c .before .before .before .sooner .ensures) (
+      search needs,
+      at2 .inv .1,
+      passing-joins (a .policy) (a .t1) (start .pre .0) (a .requests .now) (a .loadings .now) (at .time) (at .s) (at .inv .3 .at) (at2 .i) below (at2 .s) (at2 .inv .2) released _ (rw (ask, ← row-in (a .t1) (start .pre .0) (at2 .i) below) at j),
+      onward-joins (at .time) (at .s) (at2 .i) (at2 .s) (at2 .next) (at2 .inv .3) now _ _ long,
+    )
 
--- src/machine.rt:199:13
 sooner-requires-4 : tie.Need-sooner-requires-4 Inv-loop2 μ-loop2 Inv-loop μ-loop
-sooner-requires-4 c κs = ?
+sooner-requires-4 c κs = search needs
 
--- src/machine.rt:200:13
 add-i-2 : tie.Need-add-i-2 Inv-loop2 μ-loop2 Inv-loop μ-loop
-add-i-2 c = ?
+add-i-2 c = search needs
 
--- src/machine.rt:179:9
 loop2-less-2 : tie.Need-loop2-less-2 Inv-loop2 μ-loop2 Inv-loop μ-loop
-loop2-less-2 c = ?
+loop2-less-2 c = search needs
 
--- src/machine.rt:179:9
 loop2-again-2 : tie.Need-loop2-again-2 Inv-loop2 μ-loop2 Inv-loop μ-loop
-loop2-again-2 c = ?
+loop2-again-2 c =
+    let start = c .before .before .before .before .before .before .before .before .before .before .before .before .before .before .before .before .before in
+    let a = start .args in
+    let at = c .before .before .before .before .before .before .before .before .before .before .loop in
+    let at2 = c .before .before .before .before .loop2 in
+    let inside = c .before .before .before .loop2-test .taken in
+    let top = c .before .before .before .before .before .before .top .ensures in
+    let below = in-rows (at .s .next) (at .time) (a .t1 .count) _ (at2 .i) top inside in
+    let now = passes _ (at .time) (a .t1 .count) (at2 .i) (rw top at inside) in
+    let long = long-enough (at2 .inv .2 .full .release) (in-array below (at .inv .1)) in
+    let read = any-default (at2 .s .release) (at2 .i) 0 never long in
+    rw (add-one (at2 .i), c .sooner4 .ensures, read) (
+      search needs,
+      at2 .inv .1,
+      passing-by (a .policy) (a .t1) (start .pre .0) (a .requests .now) (a .loadings .now) (at .time) (at .s) (at .inv .3 .at) (at2 .i) below (at2 .s) (at2 .inv .2) (released-later (a .policy) (a .t1) (start .pre .0) (a .requests .now) (a .loadings .now) (at .time) (at .s) (at .inv .3 .at) (at2 .i) below (at2 .s) (at2 .inv .2) (λ e. c .before .if5 .left (read ∙ e))),
+      onward-by (at .time) (at .s) (at2 .i) (at2 .s) (at2 .next) (at2 .inv .3) now,
+    )
 
--- src/machine.rt:203:34
 sooner-requires-5 : tie.Need-sooner-requires-5 Inv-loop2 μ-loop2 Inv-loop μ-loop
-sooner-requires-5 c κs = ?
+sooner-requires-5 c κs = search needs
 
--- src/machine.rt:203:60
 sooner-requires-6 : tie.Need-sooner-requires-6 Inv-loop2 μ-loop2 Inv-loop μ-loop
-sooner-requires-6 c κs = ?
+sooner-requires-6 c κs = search needs
 
--- src/machine.rt:203:13
 sooner-requires-7 : tie.Need-sooner-requires-7 Inv-loop2 μ-loop2 Inv-loop μ-loop
-sooner-requires-7 c κs = ?
+sooner-requires-7 c κs = search needs
 
--- src/machine.rt:205:58
 sub-stretch : tie.Need-sub-stretch Inv-loop2 μ-loop2 Inv-loop μ-loop
-sub-stretch c = ?
+sub-stretch c =
+    let start = c .before .before .before .before .before .before .before .before .before .before .before .before .before .before .before .before .before .before .before in
+    let a = start .args in
+    let at = c .before .before .before .before .before .before .before .before .before .before .before .before .loop in
+    let at2 = c .before .before .before .before .before .before .loop2 in
+    let on-time = c .before .before .before .before .before .before .before .before .before .before .before .if1 .left in
+    let later = c .before .before .before .before .before .before .before .before .before .before .if2 .left in
+    let more = c .before .before .before .before .before .before .before .before .before .if4 .left in
+    let top = c .before .before .before .before .before .before .before .before .top .ensures in
+    let r = ready (a .policy) (a .t1) (start .pre .0) (a .requests .now) (a .loadings .now) (at .time) (at .s) (at .inv .3 .at) (at2 .i) (at2 .s) (at2 .next) (at2 .inv .2) (at2 .inv .3) (rw top at (at2 .inv .0)) (rw top at (c .before .before .before .before .before .loop2-test .left)) in
+    let stop = c .before .before .sooner7 .ensures ∙ ap (λ x. min x (c .before .before .before .sooner6 .result)) (c .before .before .before .before .sooner5 .ensures) ∙ ap (min (min (a .end) (at .mark))) (c .before .before .before .sooner6 .ensures) in
+    less-most (stop-after (a .policy) (a .t1) (start .pre .0) (a .requests .now) (a .loadings .now) (a .first) (start .pre .1 .0) (a .end) (start .pre .1 .1) _ (at .slots) (at .s) (at .was) (at .mark) (at .time) (at .inv .3) on-time later more (withNext (at2 .s) (at2 .next)) r _ stop)
 
--- src/machine.rt:205:13
 stretch-requires : tie.Need-stretch-requires Inv-loop2 μ-loop2 Inv-loop μ-loop
-stretch-requires c κs = ?
+stretch-requires c κs =
+    let start = c .before .before .before .before .before .before .before .before .before .before .before .before .before .before .before .before .before .before .before in
+    let a = start .args in
+    let at = c .before .before .before .before .before .before .before .before .before .before .before .before .loop in
+    omega (arith, at .inv .0, start .pre .1 .1, c .before .before .sooner7 .ensures, c .before .before .before .before .sooner5 .ensures)
 
--- src/machine.rt:138:5
 loop-less-2 : tie.Need-loop-less-2 Inv-loop2 μ-loop2 Inv-loop μ-loop
-loop-less-2 c = ?
+loop-less-2 c =
+    let start = c .before .before .before .before .before .before .before .before .before .before .before .before .before .before .before .before .before .before .before .before .before .before in
+    let a = start .args in
+    let at = c .before .before .before .before .before .before .before .before .before .before .before .before .before .before .before .loop in
+    let at2 = c .before .before .before .before .before .before .before .before .before .loop2 in
+    let on-time = c .before .before .before .before .before .before .before .before .before .before .before .before .before .before .if1 .left in
+    let later = c .before .before .before .before .before .before .before .before .before .before .before .before .before .if2 .left in
+    let more = c .before .before .before .before .before .before .before .before .before .before .before .before .if4 .left in
+    let top = c .before .before .before .before .before .before .before .before .before .before .before .top .ensures in
+    let r = ready (a .policy) (a .t1) (start .pre .0) (a .requests .now) (a .loadings .now) (at .time) (at .s) (at .inv .3 .at) (at2 .i) (at2 .s) (at2 .next) (at2 .inv .2) (at2 .inv .3) (rw top at (at2 .inv .0)) (rw top at (c .before .before .before .before .before .before .before .before .loop2-test .left)) in
+    let stop = c .before .before .before .before .before .sooner7 .ensures ∙ ap (λ x. min x (c .before .before .before .before .before .before .sooner6 .result)) (c .before .before .before .before .before .before .before .sooner5 .ensures) ∙ ap (min (min (a .end) (at .mark))) (c .before .before .before .before .before .before .sooner6 .ensures) in
+    measure-on (a .end) (at .time) (c .before .before .before .before .before .sooner7 .result) (at .mark) (stop-after (a .policy) (a .t1) (start .pre .0) (a .requests .now) (a .loadings .now) (a .first) (start .pre .1 .0) (a .end) (start .pre .1 .1) _ (at .slots) (at .s) (at .was) (at .mark) (at .time) (at .inv .3) on-time later more (withNext (at2 .s) (at2 .next)) r _ stop) (going-idle (a .policy) (a .t1) (start .pre .0) (a .requests .now) (a .loadings .now) (a .first) (start .pre .1 .0) (a .end) (start .pre .1 .1) _ (at .slots) (at .s) (at .was) (at .mark) (at .time) (at .inv .3) on-time later more (withNext (at2 .s) (at2 .next)) r _ stop (c .before .before .before .before .if6 .taken) _ (c .before .before .stretch .ensures) .most)
 
--- src/machine.rt:138:5
 loop-again-2 : tie.Need-loop-again-2 Inv-loop2 μ-loop2 Inv-loop μ-loop
-loop-again-2 c = ?
+loop-again-2 c =
+    let start = c .before .before .before .before .before .before .before .before .before .before .before .before .before .before .before .before .before .before .before .before .before .before in
+    let a = start .args in
+    let at = c .before .before .before .before .before .before .before .before .before .before .before .before .before .before .before .loop in
+    let at2 = c .before .before .before .before .before .before .before .before .before .loop2 in
+    let on-time = c .before .before .before .before .before .before .before .before .before .before .before .before .before .before .if1 .left in
+    let later = c .before .before .before .before .before .before .before .before .before .before .before .before .before .if2 .left in
+    let more = c .before .before .before .before .before .before .before .before .before .before .before .before .if4 .left in
+    let top = c .before .before .before .before .before .before .before .before .before .before .before .top .ensures in
+    let r = ready (a .policy) (a .t1) (start .pre .0) (a .requests .now) (a .loadings .now) (at .time) (at .s) (at .inv .3 .at) (at2 .i) (at2 .s) (at2 .next) (at2 .inv .2) (at2 .inv .3) (rw top at (at2 .inv .0)) (rw top at (c .before .before .before .before .before .before .before .before .loop2-test .left)) in
+    let stop = c .before .before .before .before .before .sooner7 .ensures ∙ ap (λ x. min x (c .before .before .before .before .before .before .sooner6 .result)) (c .before .before .before .before .before .before .before .sooner5 .ensures) ∙ ap (min (min (a .end) (at .mark))) (c .before .before .before .before .before .before .sooner6 .ensures) in
+    let g = going-idle (a .policy) (a .t1) (start .pre .0) (a .requests .now) (a .loadings .now) (a .first) (start .pre .1 .0) (a .end) (start .pre .1 .1) _ (at .slots) (at .s) (at .was) (at .mark) (at .time) (at .inv .3) on-time later more (withNext (at2 .s) (at2 .next)) r _ stop (c .before .before .before .before .if6 .taken) _ (c .before .before .stretch .ensures) in
+    (g .most, at .inv .1, g .painted .size, g)
 
--- src/machine.rt:213:17
 mul-r-2 : tie.Need-mul-r-2 Inv-loop2 μ-loop2 Inv-loop μ-loop
-mul-r-2 c = ?
+mul-r-2 c = search needs
 
--- src/machine.rt:213:17
 element-copy-out-r-2 : tie.Need-element-copy-out-r-2 Inv-loop2 μ-loop2 Inv-loop μ-loop
-element-copy-out-r-2 c = ?
+element-copy-out-r-2 c = search needs
 
--- src/machine.rt:214:17
 mul-e : tie.Need-mul-e Inv-loop2 μ-loop2 Inv-loop μ-loop
-mul-e c = ?
+mul-e c = search needs
 
--- src/machine.rt:214:17
 element-copy-out-e : tie.Need-element-copy-out-e Inv-loop2 μ-loop2 Inv-loop μ-loop
-element-copy-out-e c = ?
+element-copy-out-e c = search needs
 
--- src/machine.rt:215:17
 mul-n-2 : tie.Need-mul-n-2 Inv-loop2 μ-loop2 Inv-loop μ-loop
-mul-n-2 c = ?
+mul-n-2 c = search needs
 
--- src/machine.rt:215:17
 element-copy-out-n : tie.Need-element-copy-out-n Inv-loop2 μ-loop2 Inv-loop μ-loop
-element-copy-out-n c = ?
+element-copy-out-n c = search needs
 
--- src/machine.rt:217:46
 add-continues : tie.Need-add-continues Inv-loop2 μ-loop2 Inv-loop μ-loop
-add-continues c = ?
+add-continues c = search needs
 
--- src/machine.rt:217:53
 mul-continues : tie.Need-mul-continues Inv-loop2 μ-loop2 Inv-loop μ-loop
-mul-continues c = ?
+mul-continues c = search needs
 
--- src/machine.rt:217:53
 element-copy-out-continues : tie.Need-element-copy-out-continues Inv-loop2 μ-loop2 Inv-loop μ-loop
-element-copy-out-continues c = ?
+element-copy-out-continues c = search needs
 
--- src/machine.rt:217:74
 cast-continues : tie.Need-cast-continues Inv-loop2 μ-loop2 Inv-loop μ-loop
-cast-continues c = ?
+cast-continues c = search needs
 
--- src/machine.rt:217:67
 add-continues-2 : tie.Need-add-continues-2 Inv-loop2 μ-loop2 Inv-loop μ-loop
-add-continues-2 c = ?
+add-continues-2 c =
+    let start = c .before .before .before .before .before .before .before .before .before .before .before .before .before .before .before .before .before .before .before .before .before .before .before .before in
+    let a = start .args in
+    let at = c .before .before .before .before .before .before .before .before .before .before .before .before .before .before .before .before .before .loop in
+    omega (arith, at .inv .0, start .pre .1 .1)
 
--- src/machine.rt:217:13
 continues-requires : tie.Need-continues-requires Inv-loop2 μ-loop2 Inv-loop μ-loop
-continues-requires c κs = ?
+continues-requires c κs = search needs
 
--- src/machine.rt:218:13
 load-requires : tie.Need-load-requires Inv-loop2 μ-loop2 Inv-loop μ-loop
-load-requires c κs = ?
+load-requires c κs = search needs
 
--- src/machine.rt:220:13
 finish-requires : tie.Need-finish-requires Inv-loop2 μ-loop2 Inv-loop μ-loop
-finish-requires c κs = ?
+finish-requires c κs =
+    let start = c .before .before .before .before .before .before .before .before .before .before .before .before .before .before .before .before .before .before .before .before .before .before .before .before .before .before .before in
+    let a = start .args in
+    let at = c .before .before .before .before .before .before .before .before .before .before .before .before .before .before .before .before .before .before .before .before .loop in
+    omega (arith, at .inv .0, start .pre .1 .1)
 
--- src/machine.rt:221:35
 sooner-requires-8 : tie.Need-sooner-requires-8 Inv-loop2 μ-loop2 Inv-loop μ-loop
-sooner-requires-8 c κs = ?
+sooner-requires-8 c κs = search needs
 
--- src/machine.rt:221:13
 span-requires : tie.Need-span-requires Inv-loop2 μ-loop2 Inv-loop μ-loop
-span-requires c κs = ?
+span-requires c κs = search needs
 
--- src/machine.rt:225:13
 cast-stretch : tie.Need-cast-stretch Inv-loop2 μ-loop2 Inv-loop μ-loop
-cast-stretch c = ?
+cast-stretch c = search needs
 
--- src/machine.rt:226:13
 add-stretch : tie.Need-add-stretch Inv-loop2 μ-loop2 Inv-loop μ-loop
-add-stretch c = ?
+add-stretch c = search needs
 
--- src/machine.rt:228:13
 cast-stretch-2 : tie.Need-cast-stretch-2 Inv-loop2 μ-loop2 Inv-loop μ-loop
-cast-stretch-2 c = ?
+cast-stretch-2 c = search needs
 
--- src/machine.rt:222:9
 stretch-requires-2 : tie.Need-stretch-requires-2 Inv-loop2 μ-loop2 Inv-loop μ-loop
-stretch-requires-2 c κs = ?
+stretch-requires-2 c κs =
+    let start = c .before .before .before .before .before .before .before .before .before .before .before .before .before .before .before .before .before .before .before .before .before .before .before .before .before .before .before .before .before .before .before .before in
+    let a = start .args in
+    let at = c .before .before .before .before .before .before .before .before .before .before .before .before .before .before .before .before .before .before .before .before .before .before .before .before .before .loop in
+    omega (arith, at .inv .0, start .pre .1 .1, c .before .before .span .ensures)
 
--- src/machine.rt:232:41
 minus-requires : tie.Need-minus-requires Inv-loop2 μ-loop2 Inv-loop μ-loop
-minus-requires c κs = ?
+minus-requires c κs = search needs
 
--- src/machine.rt:232:17
 worked-requires : tie.Need-worked-requires Inv-loop2 μ-loop2 Inv-loop μ-loop
-worked-requires c κs = ?
+worked-requires c κs = search needs
 
--- src/machine.rt:233:29
 minus-requires-2 : tie.Need-minus-requires-2 Inv-loop2 μ-loop2 Inv-loop μ-loop
-minus-requires-2 c κs = ?
+minus-requires-2 c κs = search needs
 
--- src/machine.rt:234:13
 mul-x : tie.Need-mul-x Inv-loop2 μ-loop2 Inv-loop μ-loop
-mul-x c = ?
+mul-x c = search needs
 
--- src/machine.rt:234:13
 element-set-from-x : tie.Need-element-set-from-x Inv-loop2 μ-loop2 Inv-loop μ-loop
-element-set-from-x c = ?
+element-set-from-x c = search needs
 
--- src/machine.rt:235:22
 add-s : tie.Need-add-s Inv-loop2 μ-loop2 Inv-loop μ-loop
-add-s c = ?
+add-s c = search needs
 
--- src/machine.rt:138:5
 loop-less-3 : tie.Need-loop-less-3 Inv-loop2 μ-loop2 Inv-loop μ-loop
-loop-less-3 c = ?
+loop-less-3 c =
+    let start = c .before .before .before .before .before .before .before .before .before .before .before .before .before .before .before .before .before .before .before .before .before .before .before .before .before .before .before .before .before .before .before .before .before .before .before .before .before .before .before in
+    let a = start .args in
+    let at = c .before .before .before .before .before .before .before .before .before .before .before .before .before .before .before .before .before .before .before .before .before .before .before .before .before .before .before .before .before .before .before .before .loop in
+    let at2 = c .before .before .before .before .before .before .before .before .before .before .before .before .before .before .before .before .before .before .before .before .before .before .before .before .before .before .loop2 in
+    let on-time = c .before .before .before .before .before .before .before .before .before .before .before .before .before .before .before .before .before .before .before .before .before .before .before .before .before .before .before .before .before .before .before .if1 .left in
+    let later = c .before .before .before .before .before .before .before .before .before .before .before .before .before .before .before .before .before .before .before .before .before .before .before .before .before .before .before .before .before .before .if2 .left in
+    let more = c .before .before .before .before .before .before .before .before .before .before .before .before .before .before .before .before .before .before .before .before .before .before .before .before .before .before .before .before .before .if4 .left in
+    let top = c .before .before .before .before .before .before .before .before .before .before .before .before .before .before .before .before .before .before .before .before .before .before .before .before .before .before .before .before .top .ensures in
+    let r = ready (a .policy) (a .t1) (start .pre .0) (a .requests .now) (a .loadings .now) (at .time) (at .s) (at .inv .3 .at) (at2 .i) (at2 .s) (at2 .next) (at2 .inv .2) (at2 .inv .3) (rw top at (at2 .inv .0)) (rw top at (c .before .before .before .before .before .before .before .before .before .before .before .before .before .before .before .before .before .before .before .before .before .before .before .before .before .loop2-test .left)) in
+    let stop = c .before .before .before .before .before .before .before .before .before .before .before .before .before .before .before .before .before .before .before .before .before .before .sooner7 .ensures ∙ ap (λ x. min x (c .before .before .before .before .before .before .before .before .before .before .before .before .before .before .before .before .before .before .before .before .before .before .before .sooner6 .result)) (c .before .before .before .before .before .before .before .before .before .before .before .before .before .before .before .before .before .before .before .before .before .before .before .before .sooner5 .ensures) ∙ ap (min (min (a .end) (at .mark))) (c .before .before .before .before .before .before .before .before .before .before .before .before .before .before .before .before .before .before .before .before .before .before .before .sooner6 .ensures) in
+    let some = c .before .before .before .before .before .before .before .before .before .before .before .before .before .before .before .before .before .before .before .before .before .if6 .left in
+    let low = row-low (at2 .s .best) in
+    let held = long-enough (r .passed .full .release) low in
+    let its = sym (row-in (a .t1) (start .pre .0) _ (who-first (a .policy) (a .t1) (start .pre .0) (a .requests .now) (a .loadings .now) (at .time) (at-most-end (at .inv .0) (start .pre .1 .1)) (at .s) (withNext (at2 .s) (at2 .next)) r some .0)) in
+    let again = rw (any-default _ _ 0 never held) at (c .before .before .before .before .before .before .before .before .before .before .before .before .before .before .continues .ensures) in
+    let span = c .before .before .before .before .before .before .before .before .before .span .ensures ∙ ap (λ x. min (x - at .time) 4294967295) (c .before .before .before .before .before .before .before .before .before .before .sooner8 .ensures) in
+    let g = going-goes (a .policy) (a .t1) (start .pre .0) (a .requests .now) (a .loadings .now) (a .first) (start .pre .1 .0) (a .end) (start .pre .1 .1) _ (at .slots) (at .s) (at .was) (at .mark) (at .time) (at .inv .3) on-time later more (withNext (at2 .s) (at2 .next)) r _ stop some _ its _ again _ (c .before .before .before .before .before .before .before .before .before .before .before .before .before .load .ensures) _ (c .before .before .before .before .before .before .before .before .before .before .before .finish .ensures) _ span _ (c .before .before .before .before .before .before .stretch2 .ensures) (c .before .before .before .if7 .taken) _ (c .before .worked .ensures ∙ ap (workedOf _ _) (c .before .before .minus .ensures)) _ (c .minus2 .ensures) in
+    measure-on (a .end) (at .time) (c .before .before .before .before .before .before .before .before .before .before .before .before .before .before .before .before .before .before .before .before .before .before .sooner7 .result) (at .mark) (stop-after (a .policy) (a .t1) (start .pre .0) (a .requests .now) (a .loadings .now) (a .first) (start .pre .1 .0) (a .end) (start .pre .1 .1) _ (at .slots) (at .s) (at .was) (at .mark) (at .time) (at .inv .3) on-time later more (withNext (at2 .s) (at2 .next)) r _ stop) (g .most)
 
--- src/machine.rt:138:5
 loop-again-3 : tie.Need-loop-again-3 Inv-loop2 μ-loop2 Inv-loop μ-loop
-loop-again-3 c = ?
+loop-again-3 c =
+    let start = c .before .before .before .before .before .before .before .before .before .before .before .before .before .before .before .before .before .before .before .before .before .before .before .before .before .before .before .before .before .before .before .before .before .before .before .before .before .before .before in
+    let a = start .args in
+    let at = c .before .before .before .before .before .before .before .before .before .before .before .before .before .before .before .before .before .before .before .before .before .before .before .before .before .before .before .before .before .before .before .before .loop in
+    let at2 = c .before .before .before .before .before .before .before .before .before .before .before .before .before .before .before .before .before .before .before .before .before .before .before .before .before .before .loop2 in
+    let on-time = c .before .before .before .before .before .before .before .before .before .before .before .before .before .before .before .before .before .before .before .before .before .before .before .before .before .before .before .before .before .before .before .if1 .left in
+    let later = c .before .before .before .before .before .before .before .before .before .before .before .before .before .before .before .before .before .before .before .before .before .before .before .before .before .before .before .before .before .before .if2 .left in
+    let more = c .before .before .before .before .before .before .before .before .before .before .before .before .before .before .before .before .before .before .before .before .before .before .before .before .before .before .before .before .before .if4 .left in
+    let top = c .before .before .before .before .before .before .before .before .before .before .before .before .before .before .before .before .before .before .before .before .before .before .before .before .before .before .before .before .top .ensures in
+    let r = ready (a .policy) (a .t1) (start .pre .0) (a .requests .now) (a .loadings .now) (at .time) (at .s) (at .inv .3 .at) (at2 .i) (at2 .s) (at2 .next) (at2 .inv .2) (at2 .inv .3) (rw top at (at2 .inv .0)) (rw top at (c .before .before .before .before .before .before .before .before .before .before .before .before .before .before .before .before .before .before .before .before .before .before .before .before .before .loop2-test .left)) in
+    let stop = c .before .before .before .before .before .before .before .before .before .before .before .before .before .before .before .before .before .before .before .before .before .before .sooner7 .ensures ∙ ap (λ x. min x (c .before .before .before .before .before .before .before .before .before .before .before .before .before .before .before .before .before .before .before .before .before .before .before .sooner6 .result)) (c .before .before .before .before .before .before .before .before .before .before .before .before .before .before .before .before .before .before .before .before .before .before .before .before .sooner5 .ensures) ∙ ap (min (min (a .end) (at .mark))) (c .before .before .before .before .before .before .before .before .before .before .before .before .before .before .before .before .before .before .before .before .before .before .before .sooner6 .ensures) in
+    let some = c .before .before .before .before .before .before .before .before .before .before .before .before .before .before .before .before .before .before .before .before .before .if6 .left in
+    let low = row-low (at2 .s .best) in
+    let held = long-enough (r .passed .full .release) low in
+    let its = sym (row-in (a .t1) (start .pre .0) _ (who-first (a .policy) (a .t1) (start .pre .0) (a .requests .now) (a .loadings .now) (at .time) (at-most-end (at .inv .0) (start .pre .1 .1)) (at .s) (withNext (at2 .s) (at2 .next)) r some .0)) in
+    let again = rw (any-default _ _ 0 never held) at (c .before .before .before .before .before .before .before .before .before .before .before .before .before .before .continues .ensures) in
+    let span = c .before .before .before .before .before .before .before .before .before .span .ensures ∙ ap (λ x. min (x - at .time) 4294967295) (c .before .before .before .before .before .before .before .before .before .before .sooner8 .ensures) in
+    let g = going-goes (a .policy) (a .t1) (start .pre .0) (a .requests .now) (a .loadings .now) (a .first) (start .pre .1 .0) (a .end) (start .pre .1 .1) _ (at .slots) (at .s) (at .was) (at .mark) (at .time) (at .inv .3) on-time later more (withNext (at2 .s) (at2 .next)) r _ stop some _ its _ again _ (c .before .before .before .before .before .before .before .before .before .before .before .before .before .load .ensures) _ (c .before .before .before .before .before .before .before .before .before .before .before .finish .ensures) _ span _ (c .before .before .before .before .before .before .stretch2 .ensures) (c .before .before .before .if7 .taken) _ (c .before .worked .ensures ∙ ap (workedOf _ _) (c .before .before .minus .ensures)) _ (c .minus2 .ensures) in
+    (g .most, at .inv .1, g .painted .size, g)
 
--- src/machine.rt:241:61
 mul-span : tie.Need-mul-span Inv-loop2 μ-loop2 Inv-loop μ-loop
-mul-span c = ?
+mul-span c = search needs
 
--- src/machine.rt:241:61
 element-copy-out-span : tie.Need-element-copy-out-span Inv-loop2 μ-loop2 Inv-loop μ-loop
-element-copy-out-span c = ?
+element-copy-out-span c = search needs
 
--- src/machine.rt:241:43
 span-requires-2 : tie.Need-span-requires-2 Inv-loop2 μ-loop2 Inv-loop μ-loop
-span-requires-2 c κs = ?
+span-requires-2 c κs = search needs
 
--- src/machine.rt:241:13
 minus-requires-3 : tie.Need-minus-requires-3 Inv-loop2 μ-loop2 Inv-loop μ-loop
-minus-requires-3 c κs = ?
+minus-requires-3 c κs = search needs
 
--- src/machine.rt:242:20
 mul-gone : tie.Need-mul-gone Inv-loop2 μ-loop2 Inv-loop μ-loop
-mul-gone c = ?
+mul-gone c = search needs
 
--- src/machine.rt:242:20
 element-copy-out-gone : tie.Need-element-copy-out-gone Inv-loop2 μ-loop2 Inv-loop μ-loop
-element-copy-out-gone c = ?
+element-copy-out-gone c = search needs
 
--- src/machine.rt:243:9
 mul-n-3 : tie.Need-mul-n-3 Inv-loop2 μ-loop2 Inv-loop μ-loop
-mul-n-3 c = ?
+mul-n-3 c = search needs
 
--- src/machine.rt:243:9
 element-set-from-n-2 : tie.Need-element-set-from-n-2 Inv-loop2 μ-loop2 Inv-loop μ-loop
-element-set-from-n-2 c = ?
+element-set-from-n-2 c = search needs
 
--- src/machine.rt:244:37
 mul-greater : tie.Need-mul-greater Inv-loop2 μ-loop2 Inv-loop μ-loop
-mul-greater c = ?
+mul-greater c = search needs
 
--- src/machine.rt:244:37
 element-copy-out-greater : tie.Need-element-copy-out-greater Inv-loop2 μ-loop2 Inv-loop μ-loop
-element-copy-out-greater c = ?
+element-copy-out-greater c = search needs
 
--- src/machine.rt:244:22
 greater-requires : tie.Need-greater-requires Inv-loop2 μ-loop2 Inv-loop μ-loop
-greater-requires c κs = ?
+greater-requires c κs = search needs
 
--- src/machine.rt:244:9
 mul-s-4 : tie.Need-mul-s-4 Inv-loop2 μ-loop2 Inv-loop μ-loop
-mul-s-4 c = ?
+mul-s-4 c = search needs
 
--- src/machine.rt:244:9
 element-write-s-4 : tie.Need-element-write-s-4 Inv-loop2 μ-loop2 Inv-loop μ-loop
-element-write-s-4 c = ?
+element-write-s-4 c = search needs
 
--- src/machine.rt:247:9
 mul-s-5 : tie.Need-mul-s-5 Inv-loop2 μ-loop2 Inv-loop μ-loop
-mul-s-5 c = ?
+mul-s-5 c = search needs
 
--- src/machine.rt:247:9
 element-write-s-5 : tie.Need-element-write-s-5 Inv-loop2 μ-loop2 Inv-loop μ-loop
-element-write-s-5 c = ?
+element-write-s-5 c = search needs
 
--- src/machine.rt:248:9
 mul-s-6 : tie.Need-mul-s-6 Inv-loop2 μ-loop2 Inv-loop μ-loop
-mul-s-6 c = ?
+mul-s-6 c = search needs
 
--- src/machine.rt:248:9
 element-write-s-6 : tie.Need-element-write-s-6 Inv-loop2 μ-loop2 Inv-loop μ-loop
-element-write-s-6 c = ?
+element-write-s-6 c = search needs
 
--- src/machine.rt:249:21
 without-requires : tie.Need-without-requires Inv-loop2 μ-loop2 Inv-loop μ-loop
-without-requires c κs = ?
+without-requires c κs =
+    let start = c .before .before .before .before .before .before .before .before .before .before .before .before .before .before .before .before .before .before .before .before .before .before .before .before .before .before .before .before .before .before .before .before .before .before .before .before .before .before .before .before .before .before .before .before in
+    let a = start .args in
+    let at = c .before .before .before .before .before .before .before .before .before .before .before .before .before .before .before .before .before .before .before .before .before .before .before .before .before .before .before .before .before .before .before .before .before .before .before .before .before .loop in
+    let at2 = c .before .before .before .before .before .before .before .before .before .before .before .before .before .before .before .before .before .before .before .before .before .before .before .before .before .before .before .before .before .before .before .loop2 in
+    (c .before .before .before .before .before .before .before .before .before .before .before .before .before .before .before .before .before .before .before .before .before .before .before .before .before .before .before .before .before .before .before .before .before .before .before .before .before .before .before .before .blocks2 .ensures .0, simp length-set (at2 .inv .2 .full .due))
 
--- src/machine.rt:250:18
 least-requires : tie.Need-least-requires Inv-loop2 μ-loop2 Inv-loop μ-loop
-least-requires c κs = ?
+least-requires c κs =
+    let start = c .before .before .before .before .before .before .before .before .before .before .before .before .before .before .before .before .before .before .before .before .before .before .before .before .before .before .before .before .before .before .before .before .before .before .before .before .before .before .before .before .before .before .before .before .before .before .before in
+    let a = start .args in
+    let at = c .before .before .before .before .before .before .before .before .before .before .before .before .before .before .before .before .before .before .before .before .before .before .before .before .before .before .before .before .before .before .before .before .before .before .before .before .before .before .before .before .loop in
+    let at2 = c .before .before .before .before .before .before .before .before .before .before .before .before .before .before .before .before .before .before .before .before .before .before .before .before .before .before .before .before .before .before .before .before .before .before .loop2 in
+    (c .before .before .before .before .before .before .before .before .before .before .before .before .before .before .before .before .before .before .before .before .before .before .before .before .before .before .before .before .before .before .before .before .before .before .before .before .before .before .before .before .before .before .before .blocks2 .ensures .0, simp length-set (at2 .inv .2 .full .key))
 
--- src/machine.rt:138:5
 loop-less-4 : tie.Need-loop-less-4 Inv-loop2 μ-loop2 Inv-loop μ-loop
-loop-less-4 c = ?
+loop-less-4 c =
+    let start = c .before .before .before .before .before .before .before .before .before .before .before .before .before .before .before .before .before .before .before .before .before .before .before .before .before .before .before .before .before .before .before .before .before .before .before .before .before .before .before .before .before .before .before .before .before .before .before .before in
+    let a = start .args in
+    let at = c .before .before .before .before .before .before .before .before .before .before .before .before .before .before .before .before .before .before .before .before .before .before .before .before .before .before .before .before .before .before .before .before .before .before .before .before .before .before .before .before .before .loop in
+    let at2 = c .before .before .before .before .before .before .before .before .before .before .before .before .before .before .before .before .before .before .before .before .before .before .before .before .before .before .before .before .before .before .before .before .before .before .before .loop2 in
+    let on-time = c .before .before .before .before .before .before .before .before .before .before .before .before .before .before .before .before .before .before .before .before .before .before .before .before .before .before .before .before .before .before .before .before .before .before .before .before .before .before .before .before .if1 .left in
+    let later = c .before .before .before .before .before .before .before .before .before .before .before .before .before .before .before .before .before .before .before .before .before .before .before .before .before .before .before .before .before .before .before .before .before .before .before .before .before .before .before .if2 .left in
+    let more = c .before .before .before .before .before .before .before .before .before .before .before .before .before .before .before .before .before .before .before .before .before .before .before .before .before .before .before .before .before .before .before .before .before .before .before .before .before .before .if4 .left in
+    let top = c .before .before .before .before .before .before .before .before .before .before .before .before .before .before .before .before .before .before .before .before .before .before .before .before .before .before .before .before .before .before .before .before .before .before .before .before .before .top .ensures in
+    let r = ready (a .policy) (a .t1) (start .pre .0) (a .requests .now) (a .loadings .now) (at .time) (at .s) (at .inv .3 .at) (at2 .i) (at2 .s) (at2 .next) (at2 .inv .2) (at2 .inv .3) (rw top at (at2 .inv .0)) (rw top at (c .before .before .before .before .before .before .before .before .before .before .before .before .before .before .before .before .before .before .before .before .before .before .before .before .before .before .before .before .before .before .before .before .before .before .loop2-test .left)) in
+    let stop = c .before .before .before .before .before .before .before .before .before .before .before .before .before .before .before .before .before .before .before .before .before .before .before .before .before .before .before .before .before .before .before .sooner7 .ensures ∙ ap (λ x. min x (c .before .before .before .before .before .before .before .before .before .before .before .before .before .before .before .before .before .before .before .before .before .before .before .before .before .before .before .before .before .before .before .before .sooner6 .result)) (c .before .before .before .before .before .before .before .before .before .before .before .before .before .before .before .before .before .before .before .before .before .before .before .before .before .before .before .before .before .before .before .before .before .sooner5 .ensures) ∙ ap (min (min (a .end) (at .mark))) (c .before .before .before .before .before .before .before .before .before .before .before .before .before .before .before .before .before .before .before .before .before .before .before .before .before .before .before .before .before .before .before .before .sooner6 .ensures) in
+    let some = c .before .before .before .before .before .before .before .before .before .before .before .before .before .before .before .before .before .before .before .before .before .before .before .before .before .before .before .before .before .before .if6 .left in
+    let low = row-low (at2 .s .best) in
+    let held = long-enough (r .passed .full .release) low in
+    let its = sym (row-in (a .t1) (start .pre .0) _ (who-first (a .policy) (a .t1) (start .pre .0) (a .requests .now) (a .loadings .now) (at .time) (at-most-end (at .inv .0) (start .pre .1 .1)) (at .s) (withNext (at2 .s) (at2 .next)) r some .0)) in
+    let again = rw (any-default _ _ 0 never held) at (c .before .before .before .before .before .before .before .before .before .before .before .before .before .before .before .before .before .before .before .before .before .before .before .continues .ensures) in
+    let span = c .before .before .before .before .before .before .before .before .before .before .before .before .before .before .before .before .before .before .span .ensures ∙ ap (λ x. min (x - at .time) 4294967295) (c .before .before .before .before .before .before .before .before .before .before .before .before .before .before .before .before .before .before .before .sooner8 .ensures) in
+    let held-due = long-enough (r .passed .full .due) low in
+    let took = c .before .before .before .before .before .before .greater .ensures ∙ ap (max _) (c .before .before .before .before .before .before .before .before .before .minus3 .ensures ∙ ap (λ x. getD (a .t1 .rows) (at2 .s .best % 16) noRow .period - x) (rw (any-default _ _ 0 never held) at (c .before .before .before .before .before .before .before .before .before .before .span2 .ensures))) in
+    let soon = rw (any-default _ _ 0 never held-due) at (c .before .before .before .without .ensures) in
+    measure-on (a .end) (at .time) (c .before .before .before .before .before .before .before .before .before .before .before .before .before .before .before .before .before .before .before .before .finish .result) (at .mark) (full-after (a .policy) (a .t1) (start .pre .0) (a .requests .now) (a .loadings .now) (a .first) (start .pre .1 .0) (a .end) (start .pre .1 .1) _ (at .slots) (at .s) (at .was) (at .mark) (at .time) (at .inv .3) on-time later more (withNext (at2 .s) (at2 .next)) r _ stop some _ its _ again _ (c .before .before .before .before .before .before .before .before .before .before .before .before .before .before .before .before .before .before .before .before .before .before .load .ensures) _ (c .before .before .before .before .before .before .before .before .before .before .before .before .before .before .before .before .before .before .before .before .finish .ensures) _ span _ (c .before .before .before .before .before .before .before .before .before .before .before .before .before .before .before .stretch2 .ensures) (c .before .before .before .before .before .before .before .before .before .before .before .before .if7 .left) _ took _ (c .before .before .before .before .before .before .before .before .before .before .before .before .before .before .before .before .before .before .before .before .before .before .before .before .before .before .before .before .before .before .before .before .before .before .before .before .before .before .before .before .before .before .before .before .blocks2 .ensures .1) _ soon _ (c .least .ensures)) (going-ends (a .policy) (a .t1) (start .pre .0) (a .requests .now) (a .loadings .now) (a .first) (start .pre .1 .0) (a .end) (start .pre .1 .1) _ (at .slots) (at .s) (at .was) (at .mark) (at .time) (at .inv .3) on-time later more (withNext (at2 .s) (at2 .next)) r _ stop some _ its _ again _ (c .before .before .before .before .before .before .before .before .before .before .before .before .before .before .before .before .before .before .before .before .before .before .load .ensures) _ (c .before .before .before .before .before .before .before .before .before .before .before .before .before .before .before .before .before .before .before .before .finish .ensures) _ span _ (c .before .before .before .before .before .before .before .before .before .before .before .before .before .before .before .stretch2 .ensures) (c .before .before .before .before .before .before .before .before .before .before .before .before .if7 .left) _ took _ (c .before .before .before .before .before .before .before .before .before .before .before .before .before .before .before .before .before .before .before .before .before .before .before .before .before .before .before .before .before .before .before .before .before .before .before .before .before .before .before .before .before .before .before .before .blocks2 .ensures .1) _ soon _ (c .least .ensures) .most)
 
--- src/machine.rt:138:5
 loop-again-4 : tie.Need-loop-again-4 Inv-loop2 μ-loop2 Inv-loop μ-loop
-loop-again-4 c = ?
+loop-again-4 c =
+    let start = c .before .before .before .before .before .before .before .before .before .before .before .before .before .before .before .before .before .before .before .before .before .before .before .before .before .before .before .before .before .before .before .before .before .before .before .before .before .before .before .before .before .before .before .before .before .before .before .before in
+    let a = start .args in
+    let at = c .before .before .before .before .before .before .before .before .before .before .before .before .before .before .before .before .before .before .before .before .before .before .before .before .before .before .before .before .before .before .before .before .before .before .before .before .before .before .before .before .before .loop in
+    let at2 = c .before .before .before .before .before .before .before .before .before .before .before .before .before .before .before .before .before .before .before .before .before .before .before .before .before .before .before .before .before .before .before .before .before .before .before .loop2 in
+    let on-time = c .before .before .before .before .before .before .before .before .before .before .before .before .before .before .before .before .before .before .before .before .before .before .before .before .before .before .before .before .before .before .before .before .before .before .before .before .before .before .before .before .if1 .left in
+    let later = c .before .before .before .before .before .before .before .before .before .before .before .before .before .before .before .before .before .before .before .before .before .before .before .before .before .before .before .before .before .before .before .before .before .before .before .before .before .before .before .if2 .left in
+    let more = c .before .before .before .before .before .before .before .before .before .before .before .before .before .before .before .before .before .before .before .before .before .before .before .before .before .before .before .before .before .before .before .before .before .before .before .before .before .before .if4 .left in
+    let top = c .before .before .before .before .before .before .before .before .before .before .before .before .before .before .before .before .before .before .before .before .before .before .before .before .before .before .before .before .before .before .before .before .before .before .before .before .before .top .ensures in
+    let r = ready (a .policy) (a .t1) (start .pre .0) (a .requests .now) (a .loadings .now) (at .time) (at .s) (at .inv .3 .at) (at2 .i) (at2 .s) (at2 .next) (at2 .inv .2) (at2 .inv .3) (rw top at (at2 .inv .0)) (rw top at (c .before .before .before .before .before .before .before .before .before .before .before .before .before .before .before .before .before .before .before .before .before .before .before .before .before .before .before .before .before .before .before .before .before .before .loop2-test .left)) in
+    let stop = c .before .before .before .before .before .before .before .before .before .before .before .before .before .before .before .before .before .before .before .before .before .before .before .before .before .before .before .before .before .before .before .sooner7 .ensures ∙ ap (λ x. min x (c .before .before .before .before .before .before .before .before .before .before .before .before .before .before .before .before .before .before .before .before .before .before .before .before .before .before .before .before .before .before .before .before .sooner6 .result)) (c .before .before .before .before .before .before .before .before .before .before .before .before .before .before .before .before .before .before .before .before .before .before .before .before .before .before .before .before .before .before .before .before .before .sooner5 .ensures) ∙ ap (min (min (a .end) (at .mark))) (c .before .before .before .before .before .before .before .before .before .before .before .before .before .before .before .before .before .before .before .before .before .before .before .before .before .before .before .before .before .before .before .before .sooner6 .ensures) in
+    let some = c .before .before .before .before .before .before .before .before .before .before .before .before .before .before .before .before .before .before .before .before .before .before .before .before .before .before .before .before .before .before .if6 .left in
+    let low = row-low (at2 .s .best) in
+    let held = long-enough (r .passed .full .release) low in
+    let its = sym (row-in (a .t1) (start .pre .0) _ (who-first (a .policy) (a .t1) (start .pre .0) (a .requests .now) (a .loadings .now) (at .time) (at-most-end (at .inv .0) (start .pre .1 .1)) (at .s) (withNext (at2 .s) (at2 .next)) r some .0)) in
+    let again = rw (any-default _ _ 0 never held) at (c .before .before .before .before .before .before .before .before .before .before .before .before .before .before .before .before .before .before .before .before .before .before .before .continues .ensures) in
+    let span = c .before .before .before .before .before .before .before .before .before .before .before .before .before .before .before .before .before .before .span .ensures ∙ ap (λ x. min (x - at .time) 4294967295) (c .before .before .before .before .before .before .before .before .before .before .before .before .before .before .before .before .before .before .before .sooner8 .ensures) in
+    let held-due = long-enough (r .passed .full .due) low in
+    let took = c .before .before .before .before .before .before .greater .ensures ∙ ap (max _) (c .before .before .before .before .before .before .before .before .before .minus3 .ensures ∙ ap (λ x. getD (a .t1 .rows) (at2 .s .best % 16) noRow .period - x) (rw (any-default _ _ 0 never held) at (c .before .before .before .before .before .before .before .before .before .before .span2 .ensures))) in
+    let soon = rw (any-default _ _ 0 never held-due) at (c .before .before .before .without .ensures) in
+    let g = going-ends (a .policy) (a .t1) (start .pre .0) (a .requests .now) (a .loadings .now) (a .first) (start .pre .1 .0) (a .end) (start .pre .1 .1) _ (at .slots) (at .s) (at .was) (at .mark) (at .time) (at .inv .3) on-time later more (withNext (at2 .s) (at2 .next)) r _ stop some _ its _ again _ (c .before .before .before .before .before .before .before .before .before .before .before .before .before .before .before .before .before .before .before .before .before .before .load .ensures) _ (c .before .before .before .before .before .before .before .before .before .before .before .before .before .before .before .before .before .before .before .before .finish .ensures) _ span _ (c .before .before .before .before .before .before .before .before .before .before .before .before .before .before .before .stretch2 .ensures) (c .before .before .before .before .before .before .before .before .before .before .before .before .if7 .left) _ took _ (c .before .before .before .before .before .before .before .before .before .before .before .before .before .before .before .before .before .before .before .before .before .before .before .before .before .before .before .before .before .before .before .before .before .before .before .before .before .before .before .before .before .before .before .before .blocks2 .ensures .1) _ soon _ (c .least .ensures) in
+    (g .most, at .inv .1, g .painted .size, g)
 
 pub run-spec : {M : Type 1} → statement M
 run-spec =
