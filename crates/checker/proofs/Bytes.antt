@@ -11,10 +11,8 @@ use lib.Dec.{eqb, ltb, eqb·suc-zero}
 use lib.ListN.{length}
 use Rattle.rules.specs.declared.Table.{Table}
 use Rattle.rules.specs.Policies.{System, row}
-use Rattle.rules.specs.Slots.{complete, rank}
 use Rattle.rules.specs.Schedules.{idByte, kindByte}
 use Rattle.basics.specs.Cases.{eq-case}
-use Rattle.theory.specs.Order.{pick-first}
 use Rattle.theory.specs.Jump.{whose, loads, Quiet, Busy, inside}
 use Rattle.checker.specs.Paint.{Painted, stretchId, stretchKind}
 use Rattle.checker.specs.Machine.{live, Sound, systemIn, choices, PaintedRun}

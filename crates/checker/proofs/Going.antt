@@ -21,7 +21,6 @@ use Rattle.theory.specs.Counters.{until, counts}
 use Rattle.theory.specs.Jump.{whose, loads}
 use Rattle.slots.specs.Jobs.{never, continuesOf, workedOf}
 use Rattle.checker.specs.declared.machine.State.{State}
-use Rattle.checker.specs.declared.machine.Stop.{Stop}
 use Rattle.checker.specs.declared.marks.Mark.{Mark}
 use Rattle.checker.specs.declared.turn.ToLoad.{ToLoad}
 use Rattle.checker.specs.Least.{Least}

@@ -1,7 +1,6 @@
 -- From time u, where jobs have joined, to a time v not after the next release nor the soonest deadline: nothing happens before v, so
 -- the slots in between are one jump of the rules, and a state in hand that is moved as the jump moves stands for the run at v.
 use mathlib.Core.Path.{_≡_, sym, ap, _∙_, subst}
-use mathlib.Core.Logic.{_≢_}
 use mathlib.Core.Bool.{true, false}
 use mathlib.Core.List.{List}
 use Prim.Native.Nat.{ℕ, suc, _+_, _-_, _≤_, _<_, max}

@@ -8,7 +8,7 @@ use Prim.Native.Nat.{ℕ, zero, suc, _+_, _-_, _≤_, _<_, min, pred}
 use native.Mathlib.Omega.{arith}
 use native.Mathlib.Nat.{add-zero}
 use borrow.Author.Tests.{eqb-false, eq-eqb, ne-eqb, lt-ltb, le-ltb, leb-true, leb-false}
-use lib.Dec.{eqb, ltb, leb}
+use lib.Dec.{eqb}
 use lib.ListN.{getD, drop, length, set, length-set}
 use lib.Seq.{getD-drop, getD-set-same, getD-set-other, drop-drop, drop-nil, drop-length}
 use Rattle.rules.specs.declared.Row.{Row}
@@ -17,7 +17,7 @@ use Rattle.rules.specs.Policies.{row}
 use Rattle.rules.specs.Slots as rules
 use Rattle.rules.specs.Slots.{released, complete, joins, requests}
 use Rattle.rules.specs.AsRun.{one, before, asRun}
-use Rattle.basics.specs.Cases.{test, le-case, eq-case, clash}
+use Rattle.basics.specs.Cases.{test, le-case, eq-case}
 use Rattle.theory.specs.Counters.{until, released-until}
 use Rattle.theory.specs.Jump.{now}
 use Rattle.slots.specs.Jobs.{never, usedOf, openOf}
@@ -26,7 +26,7 @@ use Rattle.checker.specs.declared.join.Joined.{Joined}
 use Rattle.checker.specs.Least.{Least}
 use Rattle.checker.specs.Turns.{rankOf, joinedOf, topOf, fromOf}
 use Rattle.checker.specs.Machine.{live, Sound, systemIn, choices, stateAt, nothing, releaseIn, dueIn, keyIn, needIn, executedIn, Full, TaskAt, Unused, At}
-use Rattle.checker.proofs.SoundTables.{row-in, fine-in, count-top}
+use Rattle.checker.proofs.SoundTables.{fine-in, count-top}
 use Rattle.checker.proofs.Minima.{least-none, least-more, least-as, least-put}
 
 -- COUNTDOWNS

@@ -1,8 +1,7 @@
 -- Marks, as the loop goes by them: what was kept at the last mark stands for the run there, and no mark so far has the state of the
 -- mark before. So the first mark that is equal is found, and where none is, none is equal.
-use mathlib.Core.Path.{_≡_, refl, sym, ap, _∙_}
+use mathlib.Core.Path.{_≡_, refl, sym, _∙_}
 use mathlib.Core.Logic.{_⊎_, inl, inr, _≢_}
-use mathlib.Core.Bool.{true, false}
 use mathlib.Core.List.{List}
 use Prim.Native.Nat.{ℕ, zero, suc, _+_, _*_, _≤_, _<_}
 use native.Mathlib.Omega.{arith}
@@ -14,7 +13,7 @@ use Rattle.theory.specs.Falls.{sane}
 use Rattle.slots.specs.Jobs.{never}
 use Rattle.checker.specs.declared.machine.State.{State}
 use Rattle.checker.specs.declared.marks.Mark.{Mark}
-use Rattle.checker.specs.Machine.{live, Sound, systemIn, choices, stateAt, nothing, At, markOf, SameAt, Alike, Repeats}
+use Rattle.checker.specs.Machine.{Sound, systemIn, choices, stateAt, nothing, At, markOf, SameAt, Alike, Repeats}
 use Rattle.checker.proofs.SoundTables.{count-top}
 
 -- what is kept of a state stands for the run at time u
