@@ -87,12 +87,13 @@ before-requires c κs = search needs
 
 loop-holds : tie.Need-loop-holds Inv-loop2 μ-loop2 Inv-loop μ-loop
 loop-holds c =
-    let start = c .before .before .before .before .before .before in
+    let begun = c .before in
+    let start = begun .before .before .before .before .before in
     let a = start .args in (
       search needs,
       count-top (a .t1) (start .pre .0),
       refl,
-      going-start (a .policy) (a .t1) (start .pre .0) (a .requests .now) (a .loadings .now) (a .first) (start .pre .1 .0) (a .end) (start .pre .1 .1) _ _ (c .before .begin .ensures (a .policy) (a .requests .now) (a .loadings .now)) _ (c .before2 .ensures),
+      going-start (a .policy) (a .t1) (start .pre .0) (a .requests .now) (a .loadings .now) (a .first) (start .pre .1 .0) (a .end) (start .pre .1 .1) _ _ (begun .begin .ensures (a .policy) (a .requests .now) (a .loadings .now)) _ (c .before2 .ensures),
     )
 
 overdue-requires : tie.Need-overdue-requires Inv-loop2 μ-loop2 Inv-loop μ-loop
@@ -103,9 +104,10 @@ same-length c = search needs
 
 returns : tie.Need-returns Inv-loop2 μ-loop2 Inv-loop μ-loop
 returns c =
-    let start = c .before .before .before .before .before .before .before .before .before .before .before in
+    let head = c .before .before .before .before in
+    let start = head .before .before .before .before .before .before .before in
     let a = start .args in
-    let at = c .before .before .before .before .loop in
+    let at = head .loop in
     (ran-missed (a .policy) (a .t1) (start .pre .0) (a .requests .now) (a .loadings .now) (a .first) (start .pre .1 .0) (a .end) (start .pre .1 .1) _ (at .slots) (at .s) (at .was) (at .mark) (at .time) (at .inv .3) (c .before .before .before .if1 .taken) _ (c .overdue .ensures), at .inv .3 .painted)
 
 same-requires : tie.Need-same-requires Inv-loop2 μ-loop2 Inv-loop μ-loop
@@ -116,41 +118,41 @@ same-length-2 c = search needs
 
 returns-2 : tie.Need-returns-2 Inv-loop2 μ-loop2 Inv-loop μ-loop
 returns-2 c =
-    let start = c .before .before .before .before .before .before .before .before .before .before .before .before .before in
+    let head = c .before .before .before .before .before .before in
+    let start = head .before .before .before .before .before .before .before in
     let a = start .args in
-    let at = c .before .before .before .before .before .before .loop in
-    let on-time = c .before .before .before .before .before .if1 .left in
-    (ran-repeats (a .policy) (a .t1) (start .pre .0) (a .requests .now) (a .loadings .now) (a .first) (start .pre .1 .0) (a .end) (start .pre .1 .1) _ (at .slots) (at .s) (at .was) (at .mark) (at .time) (at .inv .3) on-time (c .before .before .before .before .if2 .taken) (c .before .same .ensures .0 (c .if3 .taken)), at .inv .3 .painted)
+    let at = head .loop in
+    (ran-repeats (a .policy) (a .t1) (start .pre .0) (a .requests .now) (a .loadings .now) (a .first) (start .pre .1 .0) (a .end) (start .pre .1 .1) _ (at .slots) (at .s) (at .was) (at .mark) (at .time) (at .inv .3) (c .before .before .before .before .before .if1 .left) (c .before .before .before .before .if2 .taken) (c .before .same .ensures .0 (c .if3 .taken)), at .inv .3 .painted)
 
 add-mark : tie.Need-add-mark Inv-loop2 μ-loop2 Inv-loop μ-loop
 add-mark c = search needs
 
 loop-less : tie.Need-loop-less Inv-loop2 μ-loop2 Inv-loop μ-loop
 loop-less c =
-    let start = c .before .before .before .before .before .before .before .before .before .before .before .before .before in
+    let head = c .before .before .before .before .before .before in
+    let start = head .before .before .before .before .before .before .before in
     let a = start .args in
-    let at = c .before .before .before .before .before .before .loop in
+    let at = head .loop in
     measure-marks (a .end) (at .time) (at .mark) (a .t1 .hyper) (c .before .before .before .before .if2 .taken) (hyper-some (a .t1) (start .pre .0))
 
 loop-again : tie.Need-loop-again Inv-loop2 μ-loop2 Inv-loop μ-loop
 loop-again c =
-    let start = c .before .before .before .before .before .before .before .before .before .before .before .before .before in
+    let head = c .before .before .before .before .before .before in
+    let start = head .before .before .before .before .before .before .before in
     let a = start .args in
-    let at = c .before .before .before .before .before .before .loop in
-    let on-time = c .before .before .before .before .before .if1 .left in
-    (at .inv .0, at .inv .1, at .inv .2, going-marked (a .policy) (a .t1) (start .pre .0) (a .requests .now) (a .loadings .now) (a .first) (start .pre .1 .0) (a .end) (start .pre .1 .1) _ (at .slots) (at .s) (at .was) (at .mark) (at .time) (at .inv .3) on-time (c .before .before .before .before .if2 .taken) (c .before .same .ensures .1 (c .if3 .left)))
+    let at = head .loop in
+    (at .inv .0, at .inv .1, at .inv .2, going-marked (a .policy) (a .t1) (start .pre .0) (a .requests .now) (a .loadings .now) (a .first) (start .pre .1 .0) (a .end) (start .pre .1 .1) _ (at .slots) (at .s) (at .was) (at .mark) (at .time) (at .inv .3) (c .before .before .before .before .before .if1 .left) (c .before .before .before .before .if2 .taken) (c .before .same .ensures .1 (c .if3 .left)))
 
 same-length-3 : tie.Need-same-length-3 Inv-loop2 μ-loop2 Inv-loop μ-loop
 same-length-3 c = search needs
 
 returns-3 : tie.Need-returns-3 Inv-loop2 μ-loop2 Inv-loop μ-loop
 returns-3 c =
-    let start = c .before .before .before .before .before .before .before .before .before .before in
+    let head = c .before .before .before in
+    let start = head .before .before .before .before .before .before .before in
     let a = start .args in
-    let at = c .before .before .before .loop in
-    let on-time = c .before .before .if1 .left in
-    let later = c .before .if2 .left in
-    (ran-through (a .policy) (a .t1) (start .pre .0) (a .requests .now) (a .loadings .now) (a .first) (start .pre .1 .0) (a .end) (start .pre .1 .1) _ (at .slots) (at .s) (at .was) (at .mark) (at .time) (at .inv .3) on-time later (c .if4 .taken), at .inv .3 .painted)
+    let at = head .loop in
+    (ran-through (a .policy) (a .t1) (start .pre .0) (a .requests .now) (a .loadings .now) (a .first) (start .pre .1 .0) (a .end) (start .pre .1 .1) _ (at .slots) (at .s) (at .was) (at .mark) (at .time) (at .inv .3) (c .before .before .if1 .left) (c .before .if2 .left) (c .if4 .taken), at .inv .3 .painted)
 
 top-requires : tie.Need-top-requires Inv-loop2 μ-loop2 Inv-loop μ-loop
 top-requires c κs = search needs
@@ -160,12 +162,15 @@ from-requires c κs = search needs
 
 loop2-holds : tie.Need-loop2-holds Inv-loop2 μ-loop2 Inv-loop μ-loop
 loop2-holds c =
-    let start = c .before .before .before .before .before .before .before .before .before .before .before .before in
+    let head = c .before .before .before .before .before in
+    let start = head .before .before .before .before .before .before .before in
     let a = start .args in
-    let at = c .before .before .before .before .before .loop in
-    let on-time = c .before .before .before .before .if1 .left in
-    let later = c .before .before .before .if2 .left in
-    (search needs, top-low (at .s .next) (at .time) (a .t1 .count) _ (c .before .top .ensures) (at .inv .1), passing-now (a .policy) (a .t1) (start .pre .0) (a .requests .now) (a .loadings .now) (a .first) (start .pre .1 .0) (a .end) (start .pre .1 .1) _ (at .slots) (at .s) (at .was) (at .mark) (at .time) (at .inv .3) on-time later, onward-start (at .time) (at .s) _ (c .from .ensures))
+    let at = head .loop in (
+      search needs,
+      top-low (at .s .next) (at .time) (a .t1 .count) _ (c .before .top .ensures) (at .inv .1),
+      passing-now (a .policy) (a .t1) (start .pre .0) (a .requests .now) (a .loadings .now) (a .first) (start .pre .1 .0) (a .end) (start .pre .1 .1) _ (at .slots) (at .s) (at .was) (at .mark) (at .time) (at .inv .3) (c .before .before .before .before .if1 .left) (c .before .before .before .if2 .left),
+      onward-start (at .time) (at .s) _ (c .from .ensures),
+    )
 
 mul-release : tie.Need-mul-release Inv-loop2 μ-loop2 Inv-loop μ-loop
 mul-release c = search needs
@@ -235,22 +240,26 @@ loop2-less c = search needs
 
 loop2-again : tie.Need-loop2-again Inv-loop2 μ-loop2 Inv-loop μ-loop
 loop2-again c =
-    let start = c .before .before .before .before .before .before .before .before .before .before .before .before .before .before .before .before .before .before .before .before .before .before .before .before in
+    let job = c .before .before .before .before .before in
+    let asked = job .before in
+    let joins = asked .before .before in
+    let inside = joins .before .before in
+    let passing = inside .before in
+    let found = passing .before .before in
+    let head = found .before .before .before .before in
+    let start = head .before .before .before .before .before .before .before in
     let a = start .args in
-    let at = c .before .before .before .before .before .before .before .before .before .before .before .before .before .before .before .before .before .loop in
-    let at2 = c .before .before .before .before .before .before .before .before .before .before .before .loop2 in
-    let inside = c .before .before .before .before .before .before .before .before .before .before .loop2-test .taken in
-    let top = c .before .before .before .before .before .before .before .before .before .before .before .before .before .top .ensures in
-    let below = in-rows (at .s .next) (at .time) (a .t1 .count) _ (at2 .i) top inside in
-    let now = passes _ (at .time) (a .t1 .count) (at2 .i) (rw top at inside) in
+    let at = head .loop in
+    let at2 = passing .loop2 in
+    let top = found .top .ensures in
+    let below = in-rows (at .s .next) (at .time) (a .t1 .count) _ (at2 .i) top (inside .loop2-test .taken) in
+    let now = passes (at .s .next) (at .time) (a .t1 .count) (at2 .i) (rw top at (inside .loop2-test .taken)) in
     let long = long-enough (at2 .inv .2 .full .release) (in-array below (at .inv .1)) in
-    let released = any-default (at2 .s .release) (at2 .i) never 0 long ∙ c .before .before .before .before .before .before .before .before .if5 .taken in
-    let ask = c .before .before .before .before .before .before .entry .ensures in
-    let j = c .before .before .before .before .before .join .ensures in
     rw (add-one (at2 .i), c .sooner3 .ensures, c .before .used .ensures, c .before .before .sooner2 .ensures, c .before .before .before .sooner .ensures) (
       search needs,
       at2 .inv .1,
-      passing-joins (a .policy) (a .t1) (start .pre .0) (a .requests .now) (a .loadings .now) (at .time) (at .s) (at .inv .3 .at) (at2 .i) below (at2 .s) (at2 .inv .2) released _ (rw (ask, ← row-in (a .t1) (start .pre .0) (at2 .i) below) at j),
+      passing-joins (a .policy) (a .t1) (start .pre .0) (a .requests .now) (a .loadings .now) (at .time) (at .s) (at .inv .3 .at) (at2 .i) below (at2 .s) (at2 .inv .2) (any-default (at2 .s .release) (at2 .i) never 0 long ∙ joins .if5 .taken) _
+          (rw (asked .entry .ensures, ← row-in (a .t1) (start .pre .0) (at2 .i) below) at (job .join .ensures)),
       onward-joins (at .time) (at .s) (at2 .i) (at2 .s) (at2 .next) (at2 .inv .3) now _ _ long,
     )
 
@@ -265,20 +274,24 @@ loop2-less-2 c = search needs
 
 loop2-again-2 : tie.Need-loop2-again-2 Inv-loop2 μ-loop2 Inv-loop μ-loop
 loop2-again-2 c =
-    let start = c .before .before .before .before .before .before .before .before .before .before .before .before .before .before .before .before .before in
+    let other = c .before in
+    let inside = other .before .before in
+    let passing = inside .before in
+    let found = passing .before .before in
+    let head = found .before .before .before .before in
+    let start = head .before .before .before .before .before .before .before in
     let a = start .args in
-    let at = c .before .before .before .before .before .before .before .before .before .before .loop in
-    let at2 = c .before .before .before .before .loop2 in
-    let inside = c .before .before .before .loop2-test .taken in
-    let top = c .before .before .before .before .before .before .top .ensures in
-    let below = in-rows (at .s .next) (at .time) (a .t1 .count) _ (at2 .i) top inside in
-    let now = passes _ (at .time) (a .t1 .count) (at2 .i) (rw top at inside) in
+    let at = head .loop in
+    let at2 = passing .loop2 in
+    let top = found .top .ensures in
+    let below = in-rows (at .s .next) (at .time) (a .t1 .count) _ (at2 .i) top (inside .loop2-test .taken) in
+    let now = passes (at .s .next) (at .time) (a .t1 .count) (at2 .i) (rw top at (inside .loop2-test .taken)) in
     let long = long-enough (at2 .inv .2 .full .release) (in-array below (at .inv .1)) in
     let read = any-default (at2 .s .release) (at2 .i) 0 never long in
     rw (add-one (at2 .i), c .sooner4 .ensures, read) (
       search needs,
       at2 .inv .1,
-      passing-by (a .policy) (a .t1) (start .pre .0) (a .requests .now) (a .loadings .now) (at .time) (at .s) (at .inv .3 .at) (at2 .i) below (at2 .s) (at2 .inv .2) (released-later (a .policy) (a .t1) (start .pre .0) (a .requests .now) (a .loadings .now) (at .time) (at .s) (at .inv .3 .at) (at2 .i) below (at2 .s) (at2 .inv .2) (λ e. c .before .if5 .left (read ∙ e))),
+      passing-by (a .policy) (a .t1) (start .pre .0) (a .requests .now) (a .loadings .now) (at .time) (at .s) (at .inv .3 .at) (at2 .i) below (at2 .s) (at2 .inv .2) (released-later (a .policy) (a .t1) (start .pre .0) (a .requests .now) (a .loadings .now) (at .time) (at .s) (at .inv .3 .at) (at2 .i) below (at2 .s) (at2 .inv .2) (λ e. other .if5 .left (read ∙ e))),
       onward-by (at .time) (at .s) (at2 .i) (at2 .s) (at2 .next) (at2 .inv .3) now,
     )
 
@@ -293,51 +306,64 @@ sooner-requires-7 c κs = search needs
 
 sub-stretch : tie.Need-sub-stretch Inv-loop2 μ-loop2 Inv-loop μ-loop
 sub-stretch c =
-    let start = c .before .before .before .before .before .before .before .before .before .before .before .before .before .before .before .before .before .before .before in
+    let until = c .before .before in
+    let passed = until .before .before .before in
+    let goes-on = passed .before .before .before .before in
+    let head = goes-on .before .before .before in
+    let start = head .before .before .before .before .before .before .before in
     let a = start .args in
-    let at = c .before .before .before .before .before .before .before .before .before .before .before .before .loop in
-    let at2 = c .before .before .before .before .before .before .loop2 in
-    let on-time = c .before .before .before .before .before .before .before .before .before .before .before .if1 .left in
-    let later = c .before .before .before .before .before .before .before .before .before .before .if2 .left in
-    let more = c .before .before .before .before .before .before .before .before .before .if4 .left in
-    let top = c .before .before .before .before .before .before .before .before .top .ensures in
-    let r = ready (a .policy) (a .t1) (start .pre .0) (a .requests .now) (a .loadings .now) (at .time) (at .s) (at .inv .3 .at) (at2 .i) (at2 .s) (at2 .next) (at2 .inv .2) (at2 .inv .3) (rw top at (at2 .inv .0)) (rw top at (c .before .before .before .before .before .loop2-test .left)) in
-    let stop = c .before .before .sooner7 .ensures ∙ ap (λ x. min x (c .before .before .before .sooner6 .result)) (c .before .before .before .before .sooner5 .ensures) ∙ ap (min (min (a .end) (at .mark))) (c .before .before .before .sooner6 .ensures) in
+    let at = head .loop in
+    let at2 = passed .before .loop2 in
+    let on-time = goes-on .before .before .if1 .left in
+    let later = goes-on .before .if2 .left in
+    let more = goes-on .if4 .left in
+    let top = passed .before .before .before .top .ensures in
+    let r = ready (a .policy) (a .t1) (start .pre .0) (a .requests .now) (a .loadings .now) (at .time) (at .s) (at .inv .3 .at) (at2 .i) (at2 .s) (at2 .next) (at2 .inv .2) (at2 .inv .3) (rw top at (at2 .inv .0)) (rw top at (passed .loop2-test .left)) in
+    let stop = until .sooner7 .ensures ∙ ap (λ x. min x (until .before .sooner6 .result)) (until .before .before .sooner5 .ensures) ∙ ap (min (min (a .end) (at .mark))) (until .before .sooner6 .ensures) in
     less-most (stop-after (a .policy) (a .t1) (start .pre .0) (a .requests .now) (a .loadings .now) (a .first) (start .pre .1 .0) (a .end) (start .pre .1 .1) _ (at .slots) (at .s) (at .was) (at .mark) (at .time) (at .inv .3) on-time later more (withNext (at2 .s) (at2 .next)) r _ stop)
 
 stretch-requires : tie.Need-stretch-requires Inv-loop2 μ-loop2 Inv-loop μ-loop
 stretch-requires c κs =
-    let start = c .before .before .before .before .before .before .before .before .before .before .before .before .before .before .before .before .before .before .before in
+    let head = c .before .before .before .before .before .before .before .before .before .before .before .before in
+    let start = head .before .before .before .before .before .before .before in
     let a = start .args in
-    let at = c .before .before .before .before .before .before .before .before .before .before .before .before .loop in
+    let at = head .loop in
     omega (arith, at .inv .0, start .pre .1 .1, c .before .before .sooner7 .ensures, c .before .before .before .before .sooner5 .ensures)
 
 loop-less-2 : tie.Need-loop-less-2 Inv-loop2 μ-loop2 Inv-loop μ-loop
 loop-less-2 c =
-    let start = c .before .before .before .before .before .before .before .before .before .before .before .before .before .before .before .before .before .before .before .before .before .before in
+    let until = c .before .before .before .before .before in
+    let passed = until .before .before .before in
+    let goes-on = passed .before .before .before .before in
+    let head = goes-on .before .before .before in
+    let start = head .before .before .before .before .before .before .before in
     let a = start .args in
-    let at = c .before .before .before .before .before .before .before .before .before .before .before .before .before .before .before .loop in
-    let at2 = c .before .before .before .before .before .before .before .before .before .loop2 in
-    let on-time = c .before .before .before .before .before .before .before .before .before .before .before .before .before .before .if1 .left in
-    let later = c .before .before .before .before .before .before .before .before .before .before .before .before .before .if2 .left in
-    let more = c .before .before .before .before .before .before .before .before .before .before .before .before .if4 .left in
-    let top = c .before .before .before .before .before .before .before .before .before .before .before .top .ensures in
-    let r = ready (a .policy) (a .t1) (start .pre .0) (a .requests .now) (a .loadings .now) (at .time) (at .s) (at .inv .3 .at) (at2 .i) (at2 .s) (at2 .next) (at2 .inv .2) (at2 .inv .3) (rw top at (at2 .inv .0)) (rw top at (c .before .before .before .before .before .before .before .before .loop2-test .left)) in
-    let stop = c .before .before .before .before .before .sooner7 .ensures ∙ ap (λ x. min x (c .before .before .before .before .before .before .sooner6 .result)) (c .before .before .before .before .before .before .before .sooner5 .ensures) ∙ ap (min (min (a .end) (at .mark))) (c .before .before .before .before .before .before .sooner6 .ensures) in
-    measure-on (a .end) (at .time) (c .before .before .before .before .before .sooner7 .result) (at .mark) (stop-after (a .policy) (a .t1) (start .pre .0) (a .requests .now) (a .loadings .now) (a .first) (start .pre .1 .0) (a .end) (start .pre .1 .1) _ (at .slots) (at .s) (at .was) (at .mark) (at .time) (at .inv .3) on-time later more (withNext (at2 .s) (at2 .next)) r _ stop) (going-idle (a .policy) (a .t1) (start .pre .0) (a .requests .now) (a .loadings .now) (a .first) (start .pre .1 .0) (a .end) (start .pre .1 .1) _ (at .slots) (at .s) (at .was) (at .mark) (at .time) (at .inv .3) on-time later more (withNext (at2 .s) (at2 .next)) r _ stop (c .before .before .before .before .if6 .taken) _ (c .before .before .stretch .ensures) .most)
+    let at = head .loop in
+    let at2 = passed .before .loop2 in
+    let on-time = goes-on .before .before .if1 .left in
+    let later = goes-on .before .if2 .left in
+    let more = goes-on .if4 .left in
+    let top = passed .before .before .before .top .ensures in
+    let r = ready (a .policy) (a .t1) (start .pre .0) (a .requests .now) (a .loadings .now) (at .time) (at .s) (at .inv .3 .at) (at2 .i) (at2 .s) (at2 .next) (at2 .inv .2) (at2 .inv .3) (rw top at (at2 .inv .0)) (rw top at (passed .loop2-test .left)) in
+    let stop = until .sooner7 .ensures ∙ ap (λ x. min x (until .before .sooner6 .result)) (until .before .before .sooner5 .ensures) ∙ ap (min (min (a .end) (at .mark))) (until .before .sooner6 .ensures) in
+    measure-on (a .end) (at .time) (until .sooner7 .result) (at .mark) (stop-after (a .policy) (a .t1) (start .pre .0) (a .requests .now) (a .loadings .now) (a .first) (start .pre .1 .0) (a .end) (start .pre .1 .1) _ (at .slots) (at .s) (at .was) (at .mark) (at .time) (at .inv .3) on-time later more (withNext (at2 .s) (at2 .next)) r _ stop) (going-idle (a .policy) (a .t1) (start .pre .0) (a .requests .now) (a .loadings .now) (a .first) (start .pre .1 .0) (a .end) (start .pre .1 .1) _ (at .slots) (at .s) (at .was) (at .mark) (at .time) (at .inv .3) on-time later more (withNext (at2 .s) (at2 .next)) r _ stop (c .before .before .before .before .if6 .taken) _ (c .before .before .stretch .ensures) .most)
 
 loop-again-2 : tie.Need-loop-again-2 Inv-loop2 μ-loop2 Inv-loop μ-loop
 loop-again-2 c =
-    let start = c .before .before .before .before .before .before .before .before .before .before .before .before .before .before .before .before .before .before .before .before .before .before in
+    let until = c .before .before .before .before .before in
+    let passed = until .before .before .before in
+    let goes-on = passed .before .before .before .before in
+    let head = goes-on .before .before .before in
+    let start = head .before .before .before .before .before .before .before in
     let a = start .args in
-    let at = c .before .before .before .before .before .before .before .before .before .before .before .before .before .before .before .loop in
-    let at2 = c .before .before .before .before .before .before .before .before .before .loop2 in
-    let on-time = c .before .before .before .before .before .before .before .before .before .before .before .before .before .before .if1 .left in
-    let later = c .before .before .before .before .before .before .before .before .before .before .before .before .before .if2 .left in
-    let more = c .before .before .before .before .before .before .before .before .before .before .before .before .if4 .left in
-    let top = c .before .before .before .before .before .before .before .before .before .before .before .top .ensures in
-    let r = ready (a .policy) (a .t1) (start .pre .0) (a .requests .now) (a .loadings .now) (at .time) (at .s) (at .inv .3 .at) (at2 .i) (at2 .s) (at2 .next) (at2 .inv .2) (at2 .inv .3) (rw top at (at2 .inv .0)) (rw top at (c .before .before .before .before .before .before .before .before .loop2-test .left)) in
-    let stop = c .before .before .before .before .before .sooner7 .ensures ∙ ap (λ x. min x (c .before .before .before .before .before .before .sooner6 .result)) (c .before .before .before .before .before .before .before .sooner5 .ensures) ∙ ap (min (min (a .end) (at .mark))) (c .before .before .before .before .before .before .sooner6 .ensures) in
+    let at = head .loop in
+    let at2 = passed .before .loop2 in
+    let on-time = goes-on .before .before .if1 .left in
+    let later = goes-on .before .if2 .left in
+    let more = goes-on .if4 .left in
+    let top = passed .before .before .before .top .ensures in
+    let r = ready (a .policy) (a .t1) (start .pre .0) (a .requests .now) (a .loadings .now) (at .time) (at .s) (at .inv .3 .at) (at2 .i) (at2 .s) (at2 .next) (at2 .inv .2) (at2 .inv .3) (rw top at (at2 .inv .0)) (rw top at (passed .loop2-test .left)) in
+    let stop = until .sooner7 .ensures ∙ ap (λ x. min x (until .before .sooner6 .result)) (until .before .before .sooner5 .ensures) ∙ ap (min (min (a .end) (at .mark))) (until .before .sooner6 .ensures) in
     let g = going-idle (a .policy) (a .t1) (start .pre .0) (a .requests .now) (a .loadings .now) (a .first) (start .pre .1 .0) (a .end) (start .pre .1 .1) _ (at .slots) (at .s) (at .was) (at .mark) (at .time) (at .inv .3) on-time later more (withNext (at2 .s) (at2 .next)) r _ stop (c .before .before .before .before .if6 .taken) _ (c .before .before .stretch .ensures) in
     (g .most, at .inv .1, g .painted .size, g)
 
@@ -373,9 +399,8 @@ cast-continues c = search needs
 
 add-continues-2 : tie.Need-add-continues-2 Inv-loop2 μ-loop2 Inv-loop μ-loop
 add-continues-2 c =
-    let start = c .before .before .before .before .before .before .before .before .before .before .before .before .before .before .before .before .before .before .before .before .before .before .before .before in
-    let a = start .args in
     let at = c .before .before .before .before .before .before .before .before .before .before .before .before .before .before .before .before .before .loop in
+    let start = c .before .before .before .before .before .before .before .before .before .before .before .before .before .before .before .before .before .before .before .before .before .before .before .before in
     omega (arith, at .inv .0, start .pre .1 .1)
 
 continues-requires : tie.Need-continues-requires Inv-loop2 μ-loop2 Inv-loop μ-loop
@@ -386,9 +411,8 @@ load-requires c κs = search needs
 
 finish-requires : tie.Need-finish-requires Inv-loop2 μ-loop2 Inv-loop μ-loop
 finish-requires c κs =
-    let start = c .before .before .before .before .before .before .before .before .before .before .before .before .before .before .before .before .before .before .before .before .before .before .before .before .before .before .before in
-    let a = start .args in
     let at = c .before .before .before .before .before .before .before .before .before .before .before .before .before .before .before .before .before .before .before .before .loop in
+    let start = c .before .before .before .before .before .before .before .before .before .before .before .before .before .before .before .before .before .before .before .before .before .before .before .before .before .before .before in
     omega (arith, at .inv .0, start .pre .1 .1)
 
 sooner-requires-8 : tie.Need-sooner-requires-8 Inv-loop2 μ-loop2 Inv-loop μ-loop
@@ -408,9 +432,10 @@ cast-stretch-2 c = search needs
 
 stretch-requires-2 : tie.Need-stretch-requires-2 Inv-loop2 μ-loop2 Inv-loop μ-loop
 stretch-requires-2 c κs =
-    let start = c .before .before .before .before .before .before .before .before .before .before .before .before .before .before .before .before .before .before .before .before .before .before .before .before .before .before .before .before .before .before .before .before in
+    let head = c .before .before .before .before .before .before .before .before .before .before .before .before .before .before .before .before .before .before .before .before .before .before .before .before .before in
+    let start = head .before .before .before .before .before .before .before in
     let a = start .args in
-    let at = c .before .before .before .before .before .before .before .before .before .before .before .before .before .before .before .before .before .before .before .before .before .before .before .before .before .loop in
+    let at = head .loop in
     omega (arith, at .inv .0, start .pre .1 .1, c .before .before .span .ensures)
 
 minus-requires : tie.Need-minus-requires Inv-loop2 μ-loop2 Inv-loop μ-loop
@@ -433,44 +458,62 @@ add-s c = search needs
 
 loop-less-3 : tie.Need-loop-less-3 Inv-loop2 μ-loop2 Inv-loop μ-loop
 loop-less-3 c =
-    let start = c .before .before .before .before .before .before .before .before .before .before .before .before .before .before .before .before .before .before .before .before .before .before .before .before .before .before .before .before .before .before .before .before .before .before .before .before .before .before .before in
+    let short = c .before .before .before in
+    let painted = short .before .before .before in
+    let counted = painted .before .before .before in
+    let loaded = counted .before .before .before .before in
+    let chosen = loaded .before .before .before .before .before .before .before .before in
+    let until = chosen .before in
+    let passed = until .before .before .before in
+    let goes-on = passed .before .before .before .before in
+    let head = goes-on .before .before .before in
+    let start = head .before .before .before .before .before .before .before in
     let a = start .args in
-    let at = c .before .before .before .before .before .before .before .before .before .before .before .before .before .before .before .before .before .before .before .before .before .before .before .before .before .before .before .before .before .before .before .before .loop in
-    let at2 = c .before .before .before .before .before .before .before .before .before .before .before .before .before .before .before .before .before .before .before .before .before .before .before .before .before .before .loop2 in
-    let on-time = c .before .before .before .before .before .before .before .before .before .before .before .before .before .before .before .before .before .before .before .before .before .before .before .before .before .before .before .before .before .before .before .if1 .left in
-    let later = c .before .before .before .before .before .before .before .before .before .before .before .before .before .before .before .before .before .before .before .before .before .before .before .before .before .before .before .before .before .before .if2 .left in
-    let more = c .before .before .before .before .before .before .before .before .before .before .before .before .before .before .before .before .before .before .before .before .before .before .before .before .before .before .before .before .before .if4 .left in
-    let top = c .before .before .before .before .before .before .before .before .before .before .before .before .before .before .before .before .before .before .before .before .before .before .before .before .before .before .before .before .top .ensures in
-    let r = ready (a .policy) (a .t1) (start .pre .0) (a .requests .now) (a .loadings .now) (at .time) (at .s) (at .inv .3 .at) (at2 .i) (at2 .s) (at2 .next) (at2 .inv .2) (at2 .inv .3) (rw top at (at2 .inv .0)) (rw top at (c .before .before .before .before .before .before .before .before .before .before .before .before .before .before .before .before .before .before .before .before .before .before .before .before .before .loop2-test .left)) in
-    let stop = c .before .before .before .before .before .before .before .before .before .before .before .before .before .before .before .before .before .before .before .before .before .before .sooner7 .ensures ∙ ap (λ x. min x (c .before .before .before .before .before .before .before .before .before .before .before .before .before .before .before .before .before .before .before .before .before .before .before .sooner6 .result)) (c .before .before .before .before .before .before .before .before .before .before .before .before .before .before .before .before .before .before .before .before .before .before .before .before .sooner5 .ensures) ∙ ap (min (min (a .end) (at .mark))) (c .before .before .before .before .before .before .before .before .before .before .before .before .before .before .before .before .before .before .before .before .before .before .before .sooner6 .ensures) in
-    let some = c .before .before .before .before .before .before .before .before .before .before .before .before .before .before .before .before .before .before .before .before .before .if6 .left in
+    let at = head .loop in
+    let at2 = passed .before .loop2 in
+    let on-time = goes-on .before .before .if1 .left in
+    let later = goes-on .before .if2 .left in
+    let more = goes-on .if4 .left in
+    let top = passed .before .before .before .top .ensures in
+    let r = ready (a .policy) (a .t1) (start .pre .0) (a .requests .now) (a .loadings .now) (at .time) (at .s) (at .inv .3 .at) (at2 .i) (at2 .s) (at2 .next) (at2 .inv .2) (at2 .inv .3) (rw top at (at2 .inv .0)) (rw top at (passed .loop2-test .left)) in
+    let stop = until .sooner7 .ensures ∙ ap (λ x. min x (until .before .sooner6 .result)) (until .before .before .sooner5 .ensures) ∙ ap (min (min (a .end) (at .mark))) (until .before .sooner6 .ensures) in
+    let some = chosen .if6 .left in
     let low = row-low (at2 .s .best) in
     let held = long-enough (r .passed .full .release) low in
     let its = sym (row-in (a .t1) (start .pre .0) _ (who-first (a .policy) (a .t1) (start .pre .0) (a .requests .now) (a .loadings .now) (at .time) (at-most-end (at .inv .0) (start .pre .1 .1)) (at .s) (withNext (at2 .s) (at2 .next)) r some .0)) in
-    let again = rw (any-default _ _ 0 never held) at (c .before .before .before .before .before .before .before .before .before .before .before .before .before .before .continues .ensures) in
-    let span = c .before .before .before .before .before .before .before .before .before .span .ensures ∙ ap (λ x. min (x - at .time) 4294967295) (c .before .before .before .before .before .before .before .before .before .before .sooner8 .ensures) in
-    let g = going-goes (a .policy) (a .t1) (start .pre .0) (a .requests .now) (a .loadings .now) (a .first) (start .pre .1 .0) (a .end) (start .pre .1 .1) _ (at .slots) (at .s) (at .was) (at .mark) (at .time) (at .inv .3) on-time later more (withNext (at2 .s) (at2 .next)) r _ stop some _ its _ again _ (c .before .before .before .before .before .before .before .before .before .before .before .before .before .load .ensures) _ (c .before .before .before .before .before .before .before .before .before .before .before .finish .ensures) _ span _ (c .before .before .before .before .before .before .stretch2 .ensures) (c .before .before .before .if7 .taken) _ (c .before .worked .ensures ∙ ap (workedOf _ _) (c .before .before .minus .ensures)) _ (c .minus2 .ensures) in
-    measure-on (a .end) (at .time) (c .before .before .before .before .before .before .before .before .before .before .before .before .before .before .before .before .before .before .before .before .before .before .sooner7 .result) (at .mark) (stop-after (a .policy) (a .t1) (start .pre .0) (a .requests .now) (a .loadings .now) (a .first) (start .pre .1 .0) (a .end) (start .pre .1 .1) _ (at .slots) (at .s) (at .was) (at .mark) (at .time) (at .inv .3) on-time later more (withNext (at2 .s) (at2 .next)) r _ stop) (g .most)
+    let again = rw (any-default _ _ 0 never held) at (loaded .before .continues .ensures) in
+    let span = counted .span .ensures ∙ ap (λ x. min (x - at .time) 4294967295) (counted .before .sooner8 .ensures) in
+    let g = going-goes (a .policy) (a .t1) (start .pre .0) (a .requests .now) (a .loadings .now) (a .first) (start .pre .1 .0) (a .end) (start .pre .1 .1) _ (at .slots) (at .s) (at .was) (at .mark) (at .time) (at .inv .3) on-time later more (withNext (at2 .s) (at2 .next)) r _ stop some _ its _ again _ (loaded .load .ensures) _ (counted .before .before .finish .ensures) _ span _ (painted .stretch2 .ensures) (short .if7 .taken) _ (c .before .worked .ensures ∙ ap (workedOf _ _) (c .before .before .minus .ensures)) _ (c .minus2 .ensures) in
+    measure-on (a .end) (at .time) (until .sooner7 .result) (at .mark) (stop-after (a .policy) (a .t1) (start .pre .0) (a .requests .now) (a .loadings .now) (a .first) (start .pre .1 .0) (a .end) (start .pre .1 .1) _ (at .slots) (at .s) (at .was) (at .mark) (at .time) (at .inv .3) on-time later more (withNext (at2 .s) (at2 .next)) r _ stop) (g .most)
 
 loop-again-3 : tie.Need-loop-again-3 Inv-loop2 μ-loop2 Inv-loop μ-loop
 loop-again-3 c =
-    let start = c .before .before .before .before .before .before .before .before .before .before .before .before .before .before .before .before .before .before .before .before .before .before .before .before .before .before .before .before .before .before .before .before .before .before .before .before .before .before .before in
+    let short = c .before .before .before in
+    let painted = short .before .before .before in
+    let counted = painted .before .before .before in
+    let loaded = counted .before .before .before .before in
+    let chosen = loaded .before .before .before .before .before .before .before .before in
+    let until = chosen .before in
+    let passed = until .before .before .before in
+    let goes-on = passed .before .before .before .before in
+    let head = goes-on .before .before .before in
+    let start = head .before .before .before .before .before .before .before in
     let a = start .args in
-    let at = c .before .before .before .before .before .before .before .before .before .before .before .before .before .before .before .before .before .before .before .before .before .before .before .before .before .before .before .before .before .before .before .before .loop in
-    let at2 = c .before .before .before .before .before .before .before .before .before .before .before .before .before .before .before .before .before .before .before .before .before .before .before .before .before .before .loop2 in
-    let on-time = c .before .before .before .before .before .before .before .before .before .before .before .before .before .before .before .before .before .before .before .before .before .before .before .before .before .before .before .before .before .before .before .if1 .left in
-    let later = c .before .before .before .before .before .before .before .before .before .before .before .before .before .before .before .before .before .before .before .before .before .before .before .before .before .before .before .before .before .before .if2 .left in
-    let more = c .before .before .before .before .before .before .before .before .before .before .before .before .before .before .before .before .before .before .before .before .before .before .before .before .before .before .before .before .before .if4 .left in
-    let top = c .before .before .before .before .before .before .before .before .before .before .before .before .before .before .before .before .before .before .before .before .before .before .before .before .before .before .before .before .top .ensures in
-    let r = ready (a .policy) (a .t1) (start .pre .0) (a .requests .now) (a .loadings .now) (at .time) (at .s) (at .inv .3 .at) (at2 .i) (at2 .s) (at2 .next) (at2 .inv .2) (at2 .inv .3) (rw top at (at2 .inv .0)) (rw top at (c .before .before .before .before .before .before .before .before .before .before .before .before .before .before .before .before .before .before .before .before .before .before .before .before .before .loop2-test .left)) in
-    let stop = c .before .before .before .before .before .before .before .before .before .before .before .before .before .before .before .before .before .before .before .before .before .before .sooner7 .ensures ∙ ap (λ x. min x (c .before .before .before .before .before .before .before .before .before .before .before .before .before .before .before .before .before .before .before .before .before .before .before .sooner6 .result)) (c .before .before .before .before .before .before .before .before .before .before .before .before .before .before .before .before .before .before .before .before .before .before .before .before .sooner5 .ensures) ∙ ap (min (min (a .end) (at .mark))) (c .before .before .before .before .before .before .before .before .before .before .before .before .before .before .before .before .before .before .before .before .before .before .before .sooner6 .ensures) in
-    let some = c .before .before .before .before .before .before .before .before .before .before .before .before .before .before .before .before .before .before .before .before .before .if6 .left in
+    let at = head .loop in
+    let at2 = passed .before .loop2 in
+    let on-time = goes-on .before .before .if1 .left in
+    let later = goes-on .before .if2 .left in
+    let more = goes-on .if4 .left in
+    let top = passed .before .before .before .top .ensures in
+    let r = ready (a .policy) (a .t1) (start .pre .0) (a .requests .now) (a .loadings .now) (at .time) (at .s) (at .inv .3 .at) (at2 .i) (at2 .s) (at2 .next) (at2 .inv .2) (at2 .inv .3) (rw top at (at2 .inv .0)) (rw top at (passed .loop2-test .left)) in
+    let stop = until .sooner7 .ensures ∙ ap (λ x. min x (until .before .sooner6 .result)) (until .before .before .sooner5 .ensures) ∙ ap (min (min (a .end) (at .mark))) (until .before .sooner6 .ensures) in
+    let some = chosen .if6 .left in
     let low = row-low (at2 .s .best) in
     let held = long-enough (r .passed .full .release) low in
     let its = sym (row-in (a .t1) (start .pre .0) _ (who-first (a .policy) (a .t1) (start .pre .0) (a .requests .now) (a .loadings .now) (at .time) (at-most-end (at .inv .0) (start .pre .1 .1)) (at .s) (withNext (at2 .s) (at2 .next)) r some .0)) in
-    let again = rw (any-default _ _ 0 never held) at (c .before .before .before .before .before .before .before .before .before .before .before .before .before .before .continues .ensures) in
-    let span = c .before .before .before .before .before .before .before .before .before .span .ensures ∙ ap (λ x. min (x - at .time) 4294967295) (c .before .before .before .before .before .before .before .before .before .before .sooner8 .ensures) in
-    let g = going-goes (a .policy) (a .t1) (start .pre .0) (a .requests .now) (a .loadings .now) (a .first) (start .pre .1 .0) (a .end) (start .pre .1 .1) _ (at .slots) (at .s) (at .was) (at .mark) (at .time) (at .inv .3) on-time later more (withNext (at2 .s) (at2 .next)) r _ stop some _ its _ again _ (c .before .before .before .before .before .before .before .before .before .before .before .before .before .load .ensures) _ (c .before .before .before .before .before .before .before .before .before .before .before .finish .ensures) _ span _ (c .before .before .before .before .before .before .stretch2 .ensures) (c .before .before .before .if7 .taken) _ (c .before .worked .ensures ∙ ap (workedOf _ _) (c .before .before .minus .ensures)) _ (c .minus2 .ensures) in
+    let again = rw (any-default _ _ 0 never held) at (loaded .before .continues .ensures) in
+    let span = counted .span .ensures ∙ ap (λ x. min (x - at .time) 4294967295) (counted .before .sooner8 .ensures) in
+    let g = going-goes (a .policy) (a .t1) (start .pre .0) (a .requests .now) (a .loadings .now) (a .first) (start .pre .1 .0) (a .end) (start .pre .1 .1) _ (at .slots) (at .s) (at .was) (at .mark) (at .time) (at .inv .3) on-time later more (withNext (at2 .s) (at2 .next)) r _ stop some _ its _ again _ (loaded .load .ensures) _ (counted .before .before .finish .ensures) _ span _ (painted .stretch2 .ensures) (short .if7 .taken) _ (c .before .worked .ensures ∙ ap (workedOf _ _) (c .before .before .minus .ensures)) _ (c .minus2 .ensures) in
     (g .most, at .inv .1, g .painted .size, g)
 
 mul-span : tie.Need-mul-span Inv-loop2 μ-loop2 Inv-loop μ-loop
@@ -526,65 +569,85 @@ element-write-s-6 c = search needs
 
 without-requires : tie.Need-without-requires Inv-loop2 μ-loop2 Inv-loop μ-loop
 without-requires c κs =
-    let start = c .before .before .before .before .before .before .before .before .before .before .before .before .before .before .before .before .before .before .before .before .before .before .before .before .before .before .before .before .before .before .before .before .before .before .before .before .before .before .before .before .before .before .before .before in
-    let a = start .args in
-    let at = c .before .before .before .before .before .before .before .before .before .before .before .before .before .before .before .before .before .before .before .before .before .before .before .before .before .before .before .before .before .before .before .before .before .before .before .before .before .loop in
-    let at2 = c .before .before .before .before .before .before .before .before .before .before .before .before .before .before .before .before .before .before .before .before .before .before .before .before .before .before .before .before .before .before .before .loop2 in
-    (c .before .before .before .before .before .before .before .before .before .before .before .before .before .before .before .before .before .before .before .before .before .before .before .before .before .before .before .before .before .before .before .before .before .before .before .before .before .before .before .before .blocks2 .ensures .0, simp length-set (at2 .inv .2 .full .due))
+    let passing = c .before .before .before .before .before .before .before .before .before .before .before .before .before .before .before .before .before .before .before .before .before .before .before .before .before .before .before .before .before .before .before in
+    let blocks = passing .before .before .before .before .before .before .before .before .before in
+    (blocks .blocks2 .ensures .0, simp length-set (passing .loop2 .inv .2 .full .due))
 
 least-requires : tie.Need-least-requires Inv-loop2 μ-loop2 Inv-loop μ-loop
 least-requires c κs =
-    let start = c .before .before .before .before .before .before .before .before .before .before .before .before .before .before .before .before .before .before .before .before .before .before .before .before .before .before .before .before .before .before .before .before .before .before .before .before .before .before .before .before .before .before .before .before .before .before .before in
-    let a = start .args in
-    let at = c .before .before .before .before .before .before .before .before .before .before .before .before .before .before .before .before .before .before .before .before .before .before .before .before .before .before .before .before .before .before .before .before .before .before .before .before .before .before .before .before .loop in
-    let at2 = c .before .before .before .before .before .before .before .before .before .before .before .before .before .before .before .before .before .before .before .before .before .before .before .before .before .before .before .before .before .before .before .before .before .before .loop2 in
-    (c .before .before .before .before .before .before .before .before .before .before .before .before .before .before .before .before .before .before .before .before .before .before .before .before .before .before .before .before .before .before .before .before .before .before .before .before .before .before .before .before .before .before .before .blocks2 .ensures .0, simp length-set (at2 .inv .2 .full .key))
+    let passing = c .before .before .before .before .before .before .before .before .before .before .before .before .before .before .before .before .before .before .before .before .before .before .before .before .before .before .before .before .before .before .before .before .before .before in
+    let blocks = passing .before .before .before .before .before .before .before .before .before in
+    (blocks .blocks2 .ensures .0, simp length-set (passing .loop2 .inv .2 .full .key))
 
 loop-less-4 : tie.Need-loop-less-4 Inv-loop2 μ-loop2 Inv-loop μ-loop
 loop-less-4 c =
-    let start = c .before .before .before .before .before .before .before .before .before .before .before .before .before .before .before .before .before .before .before .before .before .before .before .before .before .before .before .before .before .before .before .before .before .before .before .before .before .before .before .before .before .before .before .before .before .before .before .before in
+    let left = c .before .before .before in
+    let larger = left .before .before .before in
+    let rest = larger .before .before .before in
+    let all = rest .before .before .before in
+    let painted = all .before .before .before in
+    let counted = painted .before .before .before in
+    let loaded = counted .before .before .before .before in
+    let chosen = loaded .before .before .before .before .before .before .before .before in
+    let until = chosen .before in
+    let passed = until .before .before .before in
+    let goes-on = passed .before .before .before .before in
+    let head = goes-on .before .before .before in
+    let start = head .before .before .before .before .before .before .before in
     let a = start .args in
-    let at = c .before .before .before .before .before .before .before .before .before .before .before .before .before .before .before .before .before .before .before .before .before .before .before .before .before .before .before .before .before .before .before .before .before .before .before .before .before .before .before .before .before .loop in
-    let at2 = c .before .before .before .before .before .before .before .before .before .before .before .before .before .before .before .before .before .before .before .before .before .before .before .before .before .before .before .before .before .before .before .before .before .before .before .loop2 in
-    let on-time = c .before .before .before .before .before .before .before .before .before .before .before .before .before .before .before .before .before .before .before .before .before .before .before .before .before .before .before .before .before .before .before .before .before .before .before .before .before .before .before .before .if1 .left in
-    let later = c .before .before .before .before .before .before .before .before .before .before .before .before .before .before .before .before .before .before .before .before .before .before .before .before .before .before .before .before .before .before .before .before .before .before .before .before .before .before .before .if2 .left in
-    let more = c .before .before .before .before .before .before .before .before .before .before .before .before .before .before .before .before .before .before .before .before .before .before .before .before .before .before .before .before .before .before .before .before .before .before .before .before .before .before .if4 .left in
-    let top = c .before .before .before .before .before .before .before .before .before .before .before .before .before .before .before .before .before .before .before .before .before .before .before .before .before .before .before .before .before .before .before .before .before .before .before .before .before .top .ensures in
-    let r = ready (a .policy) (a .t1) (start .pre .0) (a .requests .now) (a .loadings .now) (at .time) (at .s) (at .inv .3 .at) (at2 .i) (at2 .s) (at2 .next) (at2 .inv .2) (at2 .inv .3) (rw top at (at2 .inv .0)) (rw top at (c .before .before .before .before .before .before .before .before .before .before .before .before .before .before .before .before .before .before .before .before .before .before .before .before .before .before .before .before .before .before .before .before .before .before .loop2-test .left)) in
-    let stop = c .before .before .before .before .before .before .before .before .before .before .before .before .before .before .before .before .before .before .before .before .before .before .before .before .before .before .before .before .before .before .before .sooner7 .ensures ∙ ap (λ x. min x (c .before .before .before .before .before .before .before .before .before .before .before .before .before .before .before .before .before .before .before .before .before .before .before .before .before .before .before .before .before .before .before .before .sooner6 .result)) (c .before .before .before .before .before .before .before .before .before .before .before .before .before .before .before .before .before .before .before .before .before .before .before .before .before .before .before .before .before .before .before .before .before .sooner5 .ensures) ∙ ap (min (min (a .end) (at .mark))) (c .before .before .before .before .before .before .before .before .before .before .before .before .before .before .before .before .before .before .before .before .before .before .before .before .before .before .before .before .before .before .before .before .sooner6 .ensures) in
-    let some = c .before .before .before .before .before .before .before .before .before .before .before .before .before .before .before .before .before .before .before .before .before .before .before .before .before .before .before .before .before .before .if6 .left in
+    let at = head .loop in
+    let at2 = passed .before .loop2 in
+    let on-time = goes-on .before .before .if1 .left in
+    let later = goes-on .before .if2 .left in
+    let more = goes-on .if4 .left in
+    let top = passed .before .before .before .top .ensures in
+    let r = ready (a .policy) (a .t1) (start .pre .0) (a .requests .now) (a .loadings .now) (at .time) (at .s) (at .inv .3 .at) (at2 .i) (at2 .s) (at2 .next) (at2 .inv .2) (at2 .inv .3) (rw top at (at2 .inv .0)) (rw top at (passed .loop2-test .left)) in
+    let stop = until .sooner7 .ensures ∙ ap (λ x. min x (until .before .sooner6 .result)) (until .before .before .sooner5 .ensures) ∙ ap (min (min (a .end) (at .mark))) (until .before .sooner6 .ensures) in
+    let some = chosen .if6 .left in
     let low = row-low (at2 .s .best) in
     let held = long-enough (r .passed .full .release) low in
     let its = sym (row-in (a .t1) (start .pre .0) _ (who-first (a .policy) (a .t1) (start .pre .0) (a .requests .now) (a .loadings .now) (at .time) (at-most-end (at .inv .0) (start .pre .1 .1)) (at .s) (withNext (at2 .s) (at2 .next)) r some .0)) in
-    let again = rw (any-default _ _ 0 never held) at (c .before .before .before .before .before .before .before .before .before .before .before .before .before .before .before .before .before .before .before .before .before .before .before .continues .ensures) in
-    let span = c .before .before .before .before .before .before .before .before .before .before .before .before .before .before .before .before .before .before .span .ensures ∙ ap (λ x. min (x - at .time) 4294967295) (c .before .before .before .before .before .before .before .before .before .before .before .before .before .before .before .before .before .before .before .sooner8 .ensures) in
+    let again = rw (any-default _ _ 0 never held) at (loaded .before .continues .ensures) in
+    let span = counted .span .ensures ∙ ap (λ x. min (x - at .time) 4294967295) (counted .before .sooner8 .ensures) in
     let held-due = long-enough (r .passed .full .due) low in
-    let took = c .before .before .before .before .before .before .greater .ensures ∙ ap (max _) (c .before .before .before .before .before .before .before .before .before .minus3 .ensures ∙ ap (λ x. getD (a .t1 .rows) (at2 .s .best % 16) noRow .period - x) (rw (any-default _ _ 0 never held) at (c .before .before .before .before .before .before .before .before .before .before .span2 .ensures))) in
-    let soon = rw (any-default _ _ 0 never held-due) at (c .before .before .before .without .ensures) in
-    measure-on (a .end) (at .time) (c .before .before .before .before .before .before .before .before .before .before .before .before .before .before .before .before .before .before .before .before .finish .result) (at .mark) (full-after (a .policy) (a .t1) (start .pre .0) (a .requests .now) (a .loadings .now) (a .first) (start .pre .1 .0) (a .end) (start .pre .1 .1) _ (at .slots) (at .s) (at .was) (at .mark) (at .time) (at .inv .3) on-time later more (withNext (at2 .s) (at2 .next)) r _ stop some _ its _ again _ (c .before .before .before .before .before .before .before .before .before .before .before .before .before .before .before .before .before .before .before .before .before .before .load .ensures) _ (c .before .before .before .before .before .before .before .before .before .before .before .before .before .before .before .before .before .before .before .before .finish .ensures) _ span _ (c .before .before .before .before .before .before .before .before .before .before .before .before .before .before .before .stretch2 .ensures) (c .before .before .before .before .before .before .before .before .before .before .before .before .if7 .left) _ took _ (c .before .before .before .before .before .before .before .before .before .before .before .before .before .before .before .before .before .before .before .before .before .before .before .before .before .before .before .before .before .before .before .before .before .before .before .before .before .before .before .before .before .before .before .before .blocks2 .ensures .1) _ soon _ (c .least .ensures)) (going-ends (a .policy) (a .t1) (start .pre .0) (a .requests .now) (a .loadings .now) (a .first) (start .pre .1 .0) (a .end) (start .pre .1 .1) _ (at .slots) (at .s) (at .was) (at .mark) (at .time) (at .inv .3) on-time later more (withNext (at2 .s) (at2 .next)) r _ stop some _ its _ again _ (c .before .before .before .before .before .before .before .before .before .before .before .before .before .before .before .before .before .before .before .before .before .before .load .ensures) _ (c .before .before .before .before .before .before .before .before .before .before .before .before .before .before .before .before .before .before .before .before .finish .ensures) _ span _ (c .before .before .before .before .before .before .before .before .before .before .before .before .before .before .before .stretch2 .ensures) (c .before .before .before .before .before .before .before .before .before .before .before .before .if7 .left) _ took _ (c .before .before .before .before .before .before .before .before .before .before .before .before .before .before .before .before .before .before .before .before .before .before .before .before .before .before .before .before .before .before .before .before .before .before .before .before .before .before .before .before .before .before .before .before .blocks2 .ensures .1) _ soon _ (c .least .ensures) .most)
+    let took = larger .greater .ensures ∙ ap (max _) (rest .minus3 .ensures ∙ ap (λ x. getD (a .t1 .rows) (at2 .s .best % 16) noRow .period - x) (rw (any-default _ _ 0 never held) at (rest .before .span2 .ensures))) in
+    let soon = rw (any-default _ _ 0 never held-due) at (left .without .ensures) in
+    measure-on (a .end) (at .time) (counted .before .before .finish .result) (at .mark) (full-after (a .policy) (a .t1) (start .pre .0) (a .requests .now) (a .loadings .now) (a .first) (start .pre .1 .0) (a .end) (start .pre .1 .1) _ (at .slots) (at .s) (at .was) (at .mark) (at .time) (at .inv .3) on-time later more (withNext (at2 .s) (at2 .next)) r _ stop some _ its _ again _ (loaded .load .ensures) _ (counted .before .before .finish .ensures) _ span _ (painted .stretch2 .ensures) (all .if7 .left) _ took _ (head .before .before .before .blocks2 .ensures .1) _ soon _ (c .least .ensures)) (going-ends (a .policy) (a .t1) (start .pre .0) (a .requests .now) (a .loadings .now) (a .first) (start .pre .1 .0) (a .end) (start .pre .1 .1) _ (at .slots) (at .s) (at .was) (at .mark) (at .time) (at .inv .3) on-time later more (withNext (at2 .s) (at2 .next)) r _ stop some _ its _ again _ (loaded .load .ensures) _ (counted .before .before .finish .ensures) _ span _ (painted .stretch2 .ensures) (all .if7 .left) _ took _ (head .before .before .before .blocks2 .ensures .1) _ soon _ (c .least .ensures) .most)
 
 loop-again-4 : tie.Need-loop-again-4 Inv-loop2 μ-loop2 Inv-loop μ-loop
 loop-again-4 c =
-    let start = c .before .before .before .before .before .before .before .before .before .before .before .before .before .before .before .before .before .before .before .before .before .before .before .before .before .before .before .before .before .before .before .before .before .before .before .before .before .before .before .before .before .before .before .before .before .before .before .before in
+    let left = c .before .before .before in
+    let larger = left .before .before .before in
+    let rest = larger .before .before .before in
+    let all = rest .before .before .before in
+    let painted = all .before .before .before in
+    let counted = painted .before .before .before in
+    let loaded = counted .before .before .before .before in
+    let chosen = loaded .before .before .before .before .before .before .before .before in
+    let until = chosen .before in
+    let passed = until .before .before .before in
+    let goes-on = passed .before .before .before .before in
+    let head = goes-on .before .before .before in
+    let start = head .before .before .before .before .before .before .before in
     let a = start .args in
-    let at = c .before .before .before .before .before .before .before .before .before .before .before .before .before .before .before .before .before .before .before .before .before .before .before .before .before .before .before .before .before .before .before .before .before .before .before .before .before .before .before .before .before .loop in
-    let at2 = c .before .before .before .before .before .before .before .before .before .before .before .before .before .before .before .before .before .before .before .before .before .before .before .before .before .before .before .before .before .before .before .before .before .before .before .loop2 in
-    let on-time = c .before .before .before .before .before .before .before .before .before .before .before .before .before .before .before .before .before .before .before .before .before .before .before .before .before .before .before .before .before .before .before .before .before .before .before .before .before .before .before .before .if1 .left in
-    let later = c .before .before .before .before .before .before .before .before .before .before .before .before .before .before .before .before .before .before .before .before .before .before .before .before .before .before .before .before .before .before .before .before .before .before .before .before .before .before .before .if2 .left in
-    let more = c .before .before .before .before .before .before .before .before .before .before .before .before .before .before .before .before .before .before .before .before .before .before .before .before .before .before .before .before .before .before .before .before .before .before .before .before .before .before .if4 .left in
-    let top = c .before .before .before .before .before .before .before .before .before .before .before .before .before .before .before .before .before .before .before .before .before .before .before .before .before .before .before .before .before .before .before .before .before .before .before .before .before .top .ensures in
-    let r = ready (a .policy) (a .t1) (start .pre .0) (a .requests .now) (a .loadings .now) (at .time) (at .s) (at .inv .3 .at) (at2 .i) (at2 .s) (at2 .next) (at2 .inv .2) (at2 .inv .3) (rw top at (at2 .inv .0)) (rw top at (c .before .before .before .before .before .before .before .before .before .before .before .before .before .before .before .before .before .before .before .before .before .before .before .before .before .before .before .before .before .before .before .before .before .before .loop2-test .left)) in
-    let stop = c .before .before .before .before .before .before .before .before .before .before .before .before .before .before .before .before .before .before .before .before .before .before .before .before .before .before .before .before .before .before .before .sooner7 .ensures ∙ ap (λ x. min x (c .before .before .before .before .before .before .before .before .before .before .before .before .before .before .before .before .before .before .before .before .before .before .before .before .before .before .before .before .before .before .before .before .sooner6 .result)) (c .before .before .before .before .before .before .before .before .before .before .before .before .before .before .before .before .before .before .before .before .before .before .before .before .before .before .before .before .before .before .before .before .before .sooner5 .ensures) ∙ ap (min (min (a .end) (at .mark))) (c .before .before .before .before .before .before .before .before .before .before .before .before .before .before .before .before .before .before .before .before .before .before .before .before .before .before .before .before .before .before .before .before .sooner6 .ensures) in
-    let some = c .before .before .before .before .before .before .before .before .before .before .before .before .before .before .before .before .before .before .before .before .before .before .before .before .before .before .before .before .before .before .if6 .left in
+    let at = head .loop in
+    let at2 = passed .before .loop2 in
+    let on-time = goes-on .before .before .if1 .left in
+    let later = goes-on .before .if2 .left in
+    let more = goes-on .if4 .left in
+    let top = passed .before .before .before .top .ensures in
+    let r = ready (a .policy) (a .t1) (start .pre .0) (a .requests .now) (a .loadings .now) (at .time) (at .s) (at .inv .3 .at) (at2 .i) (at2 .s) (at2 .next) (at2 .inv .2) (at2 .inv .3) (rw top at (at2 .inv .0)) (rw top at (passed .loop2-test .left)) in
+    let stop = until .sooner7 .ensures ∙ ap (λ x. min x (until .before .sooner6 .result)) (until .before .before .sooner5 .ensures) ∙ ap (min (min (a .end) (at .mark))) (until .before .sooner6 .ensures) in
+    let some = chosen .if6 .left in
     let low = row-low (at2 .s .best) in
     let held = long-enough (r .passed .full .release) low in
     let its = sym (row-in (a .t1) (start .pre .0) _ (who-first (a .policy) (a .t1) (start .pre .0) (a .requests .now) (a .loadings .now) (at .time) (at-most-end (at .inv .0) (start .pre .1 .1)) (at .s) (withNext (at2 .s) (at2 .next)) r some .0)) in
-    let again = rw (any-default _ _ 0 never held) at (c .before .before .before .before .before .before .before .before .before .before .before .before .before .before .before .before .before .before .before .before .before .before .before .continues .ensures) in
-    let span = c .before .before .before .before .before .before .before .before .before .before .before .before .before .before .before .before .before .before .span .ensures ∙ ap (λ x. min (x - at .time) 4294967295) (c .before .before .before .before .before .before .before .before .before .before .before .before .before .before .before .before .before .before .before .sooner8 .ensures) in
+    let again = rw (any-default _ _ 0 never held) at (loaded .before .continues .ensures) in
+    let span = counted .span .ensures ∙ ap (λ x. min (x - at .time) 4294967295) (counted .before .sooner8 .ensures) in
     let held-due = long-enough (r .passed .full .due) low in
-    let took = c .before .before .before .before .before .before .greater .ensures ∙ ap (max _) (c .before .before .before .before .before .before .before .before .before .minus3 .ensures ∙ ap (λ x. getD (a .t1 .rows) (at2 .s .best % 16) noRow .period - x) (rw (any-default _ _ 0 never held) at (c .before .before .before .before .before .before .before .before .before .before .span2 .ensures))) in
-    let soon = rw (any-default _ _ 0 never held-due) at (c .before .before .before .without .ensures) in
-    let g = going-ends (a .policy) (a .t1) (start .pre .0) (a .requests .now) (a .loadings .now) (a .first) (start .pre .1 .0) (a .end) (start .pre .1 .1) _ (at .slots) (at .s) (at .was) (at .mark) (at .time) (at .inv .3) on-time later more (withNext (at2 .s) (at2 .next)) r _ stop some _ its _ again _ (c .before .before .before .before .before .before .before .before .before .before .before .before .before .before .before .before .before .before .before .before .before .before .load .ensures) _ (c .before .before .before .before .before .before .before .before .before .before .before .before .before .before .before .before .before .before .before .before .finish .ensures) _ span _ (c .before .before .before .before .before .before .before .before .before .before .before .before .before .before .before .stretch2 .ensures) (c .before .before .before .before .before .before .before .before .before .before .before .before .if7 .left) _ took _ (c .before .before .before .before .before .before .before .before .before .before .before .before .before .before .before .before .before .before .before .before .before .before .before .before .before .before .before .before .before .before .before .before .before .before .before .before .before .before .before .before .before .before .before .before .blocks2 .ensures .1) _ soon _ (c .least .ensures) in
+    let took = larger .greater .ensures ∙ ap (max _) (rest .minus3 .ensures ∙ ap (λ x. getD (a .t1 .rows) (at2 .s .best % 16) noRow .period - x) (rw (any-default _ _ 0 never held) at (rest .before .span2 .ensures))) in
+    let soon = rw (any-default _ _ 0 never held-due) at (left .without .ensures) in
+    let g = going-ends (a .policy) (a .t1) (start .pre .0) (a .requests .now) (a .loadings .now) (a .first) (start .pre .1 .0) (a .end) (start .pre .1 .1) _ (at .slots) (at .s) (at .was) (at .mark) (at .time) (at .inv .3) on-time later more (withNext (at2 .s) (at2 .next)) r _ stop some _ its _ again _ (loaded .load .ensures) _ (counted .before .before .finish .ensures) _ span _ (painted .stretch2 .ensures) (all .if7 .left) _ took _ (head .before .before .before .blocks2 .ensures .1) _ soon _ (c .least .ensures) in
     (g .most, at .inv .1, g .painted .size, g)
 
 pub run-spec : {M : Type 1} → statement M
