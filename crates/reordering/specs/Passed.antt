@@ -1,5 +1,5 @@
 -- What a table that passes the checks meets, as numbers, of its rows as written and of their canonical form. `passed` is the
--- law to cite; the crates that prove the schedule's laws of tables use it, and the crate table uses `fine-rows` for its periods.
+-- law to cite; the crates that prove the schedule's laws of tables use it. The crate table uses the laws of rows for its one pass.
 use mathlib.Core.Path.{_≡_, refl, sym, ap}
 use mathlib.Core.Logic.{_≢_}
 use mathlib.Core.Bool.{Bool, true, false, _&&_}
