@@ -4,13 +4,13 @@ use mathlib.Core.Path.{_≡_, refl, sym, ap, _∙_}
 use mathlib.Core.Logic.{_≢_}
 use mathlib.Core.Bool.{Bool, true, false, cond, _&&_, not}
 use mathlib.Core.List.{List, [], _∷_, _++_, map, append-nil, append-assoc}
-use Prim.Native.Nat.{ℕ, suc, _+_, _-_, _≤_, _<_}
+use Prim.Native.Nat.{ℕ, suc, _+_, _-_, _≤_, _<_, min}
 use native.Mathlib.Numerals.{add-one}
 use native.Mathlib.Omega.{arith}
 use lib.Dec.{eqb, ltb}
 use lib.ListN.{length, take, drop, getD, set, replicate, length-drop, length-append, drop-of-length-le, length-take}
-use lib.Seq.{drop-cons, take-append-le, take-set-lt, set-append-seam, set-out}
-use borrow.Author.Tests.{eq-eqb, ne-eqb, ltb-true, ltb-false}
+use lib.Seq.{drop-cons, take-append-le, take-set-lt, set-append-seam, set-out, set-getD}
+use borrow.Author.Tests.{ne-eqb, ltb-true, ltb-false}
 use Rattle.rules.specs.Table.{noRow, padded}
 use Rattle.rules.specs.Text.{nil, breaks, opened, lines, wellFormed, rowOf, header, same, firstBad, badLine, rowsOf}
 use Rattle.csv.specs.Reader.{line, after, stop, width, begins, headAt, keptOf, keepOf, readingOf, rowAt}
@@ -114,21 +114,24 @@ word-long [] s g = omega arith
 word-long (a ∷ w) [] g = clash g refl
 word-long (a ∷ w) (b ∷ s) g = test (eqb b a) (λ f. omega (arith, word-long w s (rw f at g))) (λ f. clash g (rw f))
 
-pub begins-on : (s w : List ℕ) (i : ℕ) → i < length w → i < length s → getD s i 0 ≡ getD w i 0 → begins (drop i s) (drop i w) ≡ begins (drop (i + 1) s) (drop (i + 1) w)
-unfolding begins
-begins-on s w i h g e = rw (add-one i, drop-cons s i 0 g, drop-cons w i 0 h, eq-eqb _ _ e)
+pub begins-short : (s w : List ℕ) → length s < length w → false ≡ begins s w
+begins-short s w h = test (begins s w) (λ e. absurd (omega (arith, word-long w s e))) (λ e. sym e)
 
-pub begins-off : (s w : List ℕ) (i : ℕ) → i < length w → i < length s → getD s i 0 ≢ getD w i 0 → false ≡ begins (drop i s) (drop i w)
+-- two bytes more are compared: ok says that all before them agree, and so that they do too
+pub begins-turn : (s w : List ℕ) (i : ℕ) → i < length w → i < length s → (ok b : Bool) → b ≡ cond (eqb (getD s i 0) (getD w i 0)) ok false
+    → cond ok (begins (drop i s) (drop i w)) false ≡ cond b (begins (drop (i + 1) s) (drop (i + 1) w)) false
 unfolding begins
-begins-off s w i h g e = rw (drop-cons s i 0 g, drop-cons w i 0 h, ne-eqb _ _ e)
+begins-turn s w i h g ok b e = rw (e, add-one i, drop-cons s i 0 g, drop-cons w i 0 h) (go ok (eqb (getD s i 0) (getD w i 0)) (begins (drop (suc i) s) (drop (suc i) w)))
+  where
+    go : (ok same rest : Bool) → cond ok (cond same rest false) false ≡ cond (cond same ok false) rest false
+    go true true rest = refl
+    go true false rest = refl
+    go false true rest = refl
+    go false false rest = refl
 
-pub begins-short : (s w : List ℕ) (i : ℕ) → i < length w → length s ≤ i → false ≡ begins (drop i s) (drop i w)
+pub begins-end : (s w : List ℕ) (i : ℕ) → length w ≤ i → (ok : Bool) → ok ≡ cond ok (begins (drop i s) (drop i w)) false
 unfolding begins
-begins-short s w i h g = rw (drop-of-length-le s g, drop-cons w i 0 h)
-
-pub begins-end : (s w : List ℕ) (i : ℕ) → length w ≤ i → true ≡ begins (drop i s) (drop i w)
-unfolding begins
-begins-end s w i h = rw (drop-of-length-le w h)
+begins-end s w i h ok = rw (drop-of-length-le w h) (test ok (λ e. rw e) (λ e. rw e))
 
 -- the header
 module _ (s : List ℕ) where
@@ -232,6 +235,19 @@ keep-one : (acc : List Row) (r : Row) → keepOf (keptOf acc) r ≡ keptOf (acc 
 keep-one acc r =
     let n : length acc + 1 ≡ length (acc ++ (r ∷ [])) = sym (length-append acc (r ∷ [])) in
     λ k. record { rows = keep-rows acc r k; count = n k }
+
+-- a row more, stored in its place or, past sixteen, not at all
+pub keep-in : (k : Kept) → length (k .rows) ≡ 16 → (r : Row) (j : ℕ) → j ≡ min (k .count) 15 → (w : Row) → w ≡ cond (ltb (k .count) 16) r (getD (k .rows) j noRow)
+    → record { rows = set (k .rows) j w; count = k .count + 1 } ≡ keepOf k r
+keep-in k full r j ej w ew = λ i. record { rows = rows i; count = k .count + 1 }
+  where
+    rows : set (k .rows) j w ≡ set (k .rows) (k .count) r
+    rows = test (ltb (k .count) 16)
+        (λ e. let here : j ≡ k .count = omega (arith, ej, ltb-true (k .count) 16 e) in
+        rw here (ap (set (k .rows) (k .count)) (ew ∙ rw e)))
+        (λ e. let past : length (k .rows) ≤ k .count = omega (arith, full, ltb-false (k .count) 16 e) in
+        let same : set (k .rows) j w ≡ set (k .rows) j (getD (k .rows) j noRow) = ap (set (k .rows) j) (ew ∙ rw e) in
+        same ∙ set-getD (k .rows) j noRow ∙ sym (set-out (k .rows) (k .count) r past))
 
 -- rows kept one after the other
 unfoldable pub keepAll : Kept → List Row → Kept

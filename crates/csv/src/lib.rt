@@ -1,11 +1,13 @@
 // The reader of a table's text: the number of the first ill-formed line, or the rows. Only the crate table uses it; every
 // other crate asks that one for a table.
 ghost use mathlib.Core.Path.{_≡_};
+ghost use mathlib.Core.Bool.{false, cond};
 ghost use mathlib.Core.List.{[]};
-ghost use Prim.Native.Nat.{_-_, _≤_, _<_};
+ghost use Prim.Native.Nat.{_-_, _≤_, min};
+ghost use lib.Dec.{eqb, ltb};
 ghost use lib.ListN.{length};
 ghost use Rattle.rules.specs.Text.{digits, inner, shaped, number};
-ghost use Rattle.csv.specs.Reader.{quotes, stop, width, endingAt, fits, rowAt, begins, headAt, keptOf, keepOf, readingOf};
+ghost use Rattle.csv.specs.Reader.{quotes, stop, width, endingAt, fits, rowAt, begins, headAt, keptOf, readingOf};
 use rules::Row;
 use rules::Table;
 
@@ -77,21 +79,6 @@ impl Kept {
             rows: [z; 16],
             count: 0,
         }
-    }
-
-    // One row more; past sixteen it is only counted.
-    fn keep(mut self, r: Row) -> Kept
-        requires { ⌜ self .count < 18446744073709551615 ⌝ }
-        ensures { λ k. ⌜ k ≡ keepOf self r ⌝ }
-    {
-        let n = self.count;
-        if n < Table::MAX_ROWS {
-            self.rows[n] = r;
-            self.count = n + 1;
-            return self;
-        }
-        self.count = n + 1;
-        self
     }
 }
 
@@ -300,21 +287,30 @@ pub fn read_row(text: &[u8]) -> RowRead
     }
 }
 
-// The text begins with the word.
+// Two bytes agree, and those before them did.
+fn agree(a: u8, b: u8, before: bool) -> bool
+    ensures { λ r. ⌜ r ≡ cond (eqb a b) before false ⌝ }
+{
+    if a == b {
+        return before;
+    }
+    false
+}
+
+// The text begins with the word. No byte ends the loop, so that many are compared at once.
 fn begins_with(text: &[u8], word: &[u8]) -> bool
     ensures { λ r. ⌜ r ≡ begins (now (text .entry)) (now (word .entry)) ⌝ }
 {
+    if text.len() < word.len() {
+        return false;
+    }
+    let mut ok = true;
     let mut i: usize = 0;
     while i < word.len() {
-        if text.len() <= i {
-            return false;
-        }
-        if text[i] != word[i] {
-            return false;
-        }
+        ok = agree(text[i], word[i], ok);
         i += 1;
     }
-    true
+    ok
 }
 
 // The bytes of line 1 with its line end; 0 where it is not the header.
@@ -339,6 +335,26 @@ fn head(text: &[u8]) -> usize
     0
 }
 
+// Where the row goes that n rows come before; past sixteen, the last place.
+fn place_for(n: usize) -> usize
+    ensures { λ j. ⌜ j ≡ min n 15 ⌝ }
+{
+    if n < Table::MAX_ROWS {
+        return n;
+    }
+    Table::MAX_ROWS - 1
+}
+
+// What stands there afterwards; past sixteen the row is only counted.
+fn kept_at(n: usize, r: Row, old: Row) -> Row
+    ensures { λ w. ⌜ w ≡ cond (ltb n 16) r old ⌝ }
+{
+    if n < Table::MAX_ROWS {
+        return r;
+    }
+    old
+}
+
 // The whole text, line by line, up to the first ill-formed line or the end.
 pub fn read_rows(text: &[u8]) -> Reading
     ensures { λ r. ⌜ r ≡ readingOf (now (text .entry)) ⌝ }
@@ -361,8 +377,11 @@ pub fn read_rows(text: &[u8]) -> Reading
                 kept: Kept::empty(),
             };
         }
-        let w = r.row;
-        kept = kept.keep(w);
+        let c = kept.count;
+        let j = place_for(c);
+        let w = kept_at(c, r.row, kept.rows[j]);
+        kept.rows[j] = w;
+        kept.count = c + 1;
         let m = r.used;
         t = &t[m..];
         n += 1;

@@ -1,5 +1,5 @@
 -- What a table that passes the checks meets, as numbers, of its rows as written and of their canonical form. `passed` is the
--- law to cite; the crates that prove the schedule's laws of tables use it, and the crate table uses `fine-rows` for its periods.
+-- law to cite; the crates that prove the schedule's laws of tables use it. The crate table uses the laws of rows for its one pass.
 use mathlib.Core.Path.{_≡_, refl, sym, ap}
 use mathlib.Core.Logic.{_≢_}
 use mathlib.Core.Bool.{Bool, true, false, _&&_}
@@ -94,7 +94,7 @@ joined-true : (b : Bool) (bs : List Bool) → joined b bs ≡ true → Each (b �
 joined-true b [] h = (h, tt)
 joined-true b (c ∷ cs) h = let k = both-true b (joined c cs) h in (k .0, joined-true c cs (k .1))
 
-fine-row : (r : Row) → idWrong r ≡ false → timeWrong r ≡ false → priorityWrong r ≡ false → orderWrong r ≡ false → resumeWrong r ≡ false → Fine r
+pub fine-row : (r : Row) → idWrong r ≡ false → timeWrong r ≡ false → priorityWrong r ≡ false → orderWrong r ≡ false → resumeWrong r ≡ false → Fine r
 fine-row r a b c d e =
     let id = within-is 1 255 (r .id) (not-false _ a) in
     let priority = within-is 1 255 (r .priority) (not-false _ c) in

@@ -6,27 +6,28 @@ use mathlib.Core.List.{List, _++_}
 use Prim.Native.Nat.{ℕ, _≤_, _<_}
 use native.Mathlib.Omega.{arith}
 use lib.ListN.{length, take, replicate}
-use lib.Seq.{length-take-le}
 use borrow.Author.Tests.{eq-eqb, ne-eqb, le-leb, lt-leb}
 use Rattle.rules.specs.declared.Row.{Row}
 use Rattle.rules.specs.declared.Refusal.{Refusal}
 use Rattle.rules.specs.declared.TableRead.{TableRead}
 use Rattle.rules.specs.Text.{badLine, rowsOf}
 use Rattle.rules.specs.Table.{noRow, canonical, omax, hyper}
-use Rattle.rules.specs.Checks.{nothing, firstFault, refused, checked, rowsChecked, tableRead}
+use Rattle.rules.specs.Checks.{firstFault, refused, checked, rowsChecked, tableRead}
 use Rattle.basics.specs.Cases.{le-case}
-use Rattle.reordering.specs.All.{All}
-use Rattle.reordering.specs.Canonical.{padded-rows}
-use Rattle.reordering.specs.Passed.{Fine, fine-rows}
+use Rattle.reordering.specs.Canonical.{padded-rows, canonical-length}
 use Rattle.csv.specs.declared.Kept.{Kept}
 use Rattle.csv.specs.declared.Reading.{Reading}
 use Rattle.csv.specs.Reader.{keptOf, readingOf}
-use Rattle.table.specs.Kept.{keptChecked}
+use Rattle.table.specs.Kept.{Keeps, acceptedOf, keptChecked}
 
-pub kept-fine : (rows : List Row) (f : Refusal) → f ≡ firstFault 7 6 rows → f .number ≡ 0 → All Fine rows
-kept-fine rows f e z = fine-rows rows (ap (λ (r : Refusal). r .number) (sym e) ∙ z)
+-- rows already in ascending id are kept as they are
+pub kept-ascending : (t : Kept) → Keeps t → t .count ≤ 16 → canonical (take (t .count) (t .rows)) ≡ take (t .count) (t .rows)
+    → t ≡ keptOf (canonical (take (t .count) (t .rows)))
+kept-ascending t k few e =
+    let whole : take (t .count) (t .rows) ≡ k .0 = rw (k .1) (padded-rows (k .0) (omega (arith, ap (λ (x : Kept). x .count) (k .1)))) in
+    k .1 ∙ ap keptOf (sym (e ∙ whole))
 
-module _ (t : Kept) (full : length (t .rows) ≡ 16) (lo : 1 ≤ t .count) (hi : t .count ≤ 16) (f : Refusal) (e : f ≡ firstFault 7 6 (take (t .count) (t .rows))) where
+module _ (t : Kept) (lo : 1 ≤ t .count) (hi : t .count ≤ 16) (f : Refusal) (e : f ≡ firstFault 7 6 (take (t .count) (t .rows))) where
   open-checks : keptChecked t ≡ checked (take (t .count) (t .rows)) f
   open-checks = rw (le-leb 1 (t .count) lo, le-leb (t .count) 16 hi, e)
 
@@ -39,13 +40,12 @@ module _ (t : Kept) (full : length (t .rows) ≡ 16) (lo : 1 ≤ t .count) (hi :
     unfolding checked
     checks-over g = sym (open-checks ∙ rw (eq-eqb (f .number) 0 z, ← eh, lt-leb h 100000 g))
 
-    pub checks-fine : h ≤ 100000 → (m : ℕ) → m ≡ omax (take (t .count) (t .rows)) → (s : Kept) → s ≡ keptOf (canonical (take (t .count) (t .rows)))
-        → record { refusal = nothing; table = record { rows = s .rows; count = t .count; omax = m; hyper = h } } ≡ keptChecked t
+    pub checks-fine : h ≤ 100000 → (m : ℕ) → m ≡ omax (take (t .count) (t .rows)) → (s : Kept) → s ≡ keptOf (canonical (take (t .count) (t .rows))) → acceptedOf s m h ≡ keptChecked t
     unfolding checked
     checks-fine g m em s es =
-        let n : length (take (t .count) (t .rows)) ≡ t .count = length-take-le (t .count) (t .rows) (omega arith) in
+        let n : s .count ≡ length (take (t .count) (t .rows)) = ap (λ (k : Kept). k .count) es ∙ canonical-length (take (t .count) (t .rows)) in
         let rs : s .rows ≡ take 16 (canonical (take (t .count) (t .rows)) ++ replicate 16 noRow) = ap (λ (k : Kept). k .rows) es in
-        sym (open-checks ∙ rw (eq-eqb (f .number) 0 z, ← eh, le-leb h 100000 g, n, ← em, ← rs))
+        sym (open-checks ∙ rw (eq-eqb (f .number) 0 z, ← eh, le-leb h 100000 g, ← n, ← em, ← rs))
 
 -- rows kept are the rows, up to sixteen
 kept-checked : (rows : List Row) → keptChecked (keptOf rows) ≡ rowsChecked rows
@@ -63,9 +63,16 @@ module _ (s : List ℕ) (short : length s ≤ 4096) (g : Reading) (e : g ≡ rea
       let l : g .line ≡ badLine s = ap (λ (r : Reading). r .line) e in
       rw (le-leb (length s) 4096 short, ← l, ne-eqb (g .line) 0 n)
 
-  pub read-good : g .line ≡ 0 → (r : TableRead) → r ≡ keptChecked (g .kept) → r ≡ tableRead s
-  unfolding tableRead
-  read-good z r f =
-      let l : badLine s ≡ 0 = sym (ap (λ (r : Reading). r .line) e) ∙ z in
-      let k : g .kept ≡ keptOf (rowsOf s) = ap (λ (r : Reading). r .kept) e ∙ rw l in
-      f ∙ rw (le-leb (length s) 4096 short, l, k) (kept-checked (rowsOf s))
+  module _ (z : g .line ≡ 0) where
+    good : badLine s ≡ 0
+    good = sym (ap (λ (r : Reading). r .line) e) ∙ z
+
+    kept-rows : g .kept ≡ keptOf (rowsOf s)
+    kept-rows = ap (λ (r : Reading). r .kept) e ∙ rw good
+
+    pub read-keeps : Keeps (g .kept)
+    read-keeps = (rowsOf s, kept-rows)
+
+    pub read-good : (r : TableRead) → r ≡ keptChecked (g .kept) → r ≡ tableRead s
+    unfolding tableRead
+    read-good r f = f ∙ rw (le-leb (length s) 4096 short, good, kept-rows) (kept-checked (rowsOf s))

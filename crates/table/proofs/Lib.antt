@@ -2,4 +2,5 @@
 pub mod Loops
 pub mod Hyper
 pub mod Sort
+pub mod OnePass
 pub mod Checked

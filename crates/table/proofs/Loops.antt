@@ -1,10 +1,10 @@
 -- Loops over the first n of the sixteen rows: what is counted, searched or compared so far and what is to come are the whole.
--- For count_of, place_of, first_fault and omax_of; `rest-cons` and `rest-end` take such a list apart.
+-- For count_of, place_of and first_fault; `rest-cons` and `rest-end` take such a list apart.
 use mathlib.Core.Path.{_≡_, sym, ap, _∙_}
 use mathlib.Core.Logic.{_≢_}
 use mathlib.Core.Bool.{Bool, cond}
 use mathlib.Core.List.{List, [], _∷_}
-use Prim.Native.Nat.{ℕ, suc, _+_, _-_, _≤_, _<_, max}
+use Prim.Native.Nat.{ℕ, suc, _+_, _-_, _≤_, _<_}
 use native.Mathlib.Numerals.{add-one}
 use native.Mathlib.Omega.{arith}
 use lib.Dec.{eqb}
@@ -12,7 +12,7 @@ use lib.ListN.{length, take, drop, getD, drop-of-length-le}
 use lib.Seq.{drop-cons, getD-take, length-take-le}
 use borrow.Author.Tests.{ne-eqb}
 use Rattle.rules.specs.declared.Row.{Row}
-use Rattle.rules.specs.Table.{noRow, omax}
+use Rattle.rules.specs.Table.{noRow}
 use Rattle.rules.specs.Checks.{key, times, better, smallest, place, nothing, firstFault}
 
 pub rest-cons : {R : Type 0} (n : ℕ) (rows : List R) (i : ℕ) (d : R) → i < n → n ≤ length rows
@@ -64,13 +64,3 @@ module _ (rows : List Row) where
   pub fault-none : (n : ℕ) → 13 ≤ n → n ≤ 13 → firstFault 7 6 rows ≡ firstFault (13 - n) n rows → nothing ≡ firstFault 7 6 rows
   unfolding firstFault
   fault-none n g h e = let d : 13 - n ≡ 0 = omega arith in sym (e ∙ rw d)
-
-module _ (n : ℕ) (rows : List Row) (k : n ≤ length rows) where
-  pub omax-turn : (all m i a : ℕ) → i < n → max m (omax (drop i (take n rows))) ≡ all
-      → a ≡ max m (getD rows i noRow .offset) → max a (omax (drop (i + 1) (take n rows))) ≡ all
-  unfolding omax
-  omax-turn all m i a h e f = omega (arith, e, f, ap omax (rest-cons n rows i noRow h k))
-
-  pub omax-done : (all m i : ℕ) → n ≤ i → max m (omax (drop i (take n rows))) ≡ all → m ≡ all
-  unfolding omax
-  omax-done all m i h e = omega (arith, e, ap omax (rest-end n rows i h k))
