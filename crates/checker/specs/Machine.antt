@@ -23,7 +23,7 @@ use Rattle.checker.specs.declared.machine.State.{State}
 use Rattle.checker.specs.declared.machine.Stop.{Stop}
 use Rattle.checker.specs.declared.marks.Mark.{Mark}
 use Rattle.checker.specs.Least.{Least}
-use Rattle.checker.specs.Turns.{rankOf}
+use Rattle.checker.specs.Turns.{taggedOf, rankOf}
 use Rattle.checker.specs.Paint.{Painted}
 
 -- THE TABLE in hand
@@ -90,8 +90,8 @@ pub record Full (s : State) : Type 0 where
 pub record TaskAt (p : ℕ) (w : Row) (x : rules.State) (v i : ℕ) (s : State) : Type 0 where
   pub need : needIn s i ≡ x .need i
   pub executed : executedIn s i ≡ x .executed i
-  pub release : releaseIn s i ≡ v + until w v
-  pub incomplete : rules.complete x i ≡ false → (dueIn s i + w .period ≡ releaseIn s i + w .deadline) × (keyIn s i ≡ rankOf p w i (dueIn s i))
+  pub release : releaseIn s i ≡ taggedOf (v + until w v) i
+  pub incomplete : rules.complete x i ≡ false → (dueIn s i + w .period ≡ v + until w v + w .deadline) × (keyIn s i ≡ rankOf p w i (dueIn s i))
   pub complete : rules.complete x i ≡ true → (dueIn s i ≡ never) × (keyIn s i ≡ never)
 
 -- it has no task i

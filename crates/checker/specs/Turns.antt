@@ -1,34 +1,30 @@
 -- What the functions of a turn of the loop give, on numbers. Means of proof.
-use mathlib.Core.Bool.{Bool, cond}
+use mathlib.Core.Bool.{Bool}
 use mathlib.Core.List.{List}
 use Prim.Native.Nat.{ℕ, _+_, _*_, min}
-use lib.Dec.{eqb}
 use lib.ListN.{getD, length}
 use Rattle.rules.specs.declared.Row.{Row}
 use Rattle.rules.specs.declared.Executed.{Executed}
 use Rattle.rules.specs.declared.Loading.{Loading}
-use Rattle.slots.specs.Jobs.{never, usedOf, keyOf, openOf, delayOf, begunOf, beginsOf}
+use Rattle.slots.specs.Jobs.{usedOf, keyOf, openOf, delayOf, begunOf, beginsOf}
 use Rattle.checker.specs.declared.join.Joined.{Joined}
 use Rattle.checker.specs.declared.turn.ToLoad.{ToLoad}
 
--- the key of row i: by the policy, then by the row
+-- a number with its row
+abbrev pub taggedOf : ℕ → ℕ → ℕ
+taggedOf x i = x * 16 + i
+
 abbrev pub rankOf : ℕ → Row → ℕ → ℕ → ℕ
-rankOf p r i due = keyOf p r due * 16 + i
+rankOf p r i due = taggedOf (keyOf p r due) i
 
 abbrev pub joinedOf : ℕ → Row → ℕ → ℕ → ℕ → Joined
 joinedOf p r i time ask =
     record {
       need = record { 0 = min ask (r .wcet) };
-      release = time + r .period;
+      release = taggedOf (time + r .period) i;
       due = openOf (record { 0 = min ask (r .wcet) }) (time + r .deadline);
       key = openOf (record { 0 = min ask (r .wcet) }) (rankOf p r i (time + r .deadline));
     }
-
-abbrev pub topOf : ℕ → ℕ → ℕ → ℕ
-topOf next time rows = cond (eqb next time) rows 0
-
-abbrev pub fromOf : ℕ → ℕ → ℕ
-fromOf next time = cond (eqb next time) never next
 
 abbrev pub loadOf : Row → Executed → Bool → Loading → ℕ → List ℕ → ToLoad
 loadOf r e again left begun zs =

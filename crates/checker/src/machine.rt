@@ -14,7 +14,8 @@ use rules::Table;
 
 // The state at a time, before jobs join. Of each task the time of the next release; of its newest job, while it is incomplete, the
 // deadline and the key by which it goes first, and NEVER once it is complete; what it is to have and what it has executed; the
-// longest response of the task's jobs. Then the least of releases, deadlines and keys. asked and begun are places in the lists.
+// longest response of the task's jobs. Releases and keys carry their row. Then the least of releases, deadlines and keys. asked and
+// begun are places in the lists.
 pub struct State {
     pub release: [u64; 16],
     pub due: [u64; 16],
@@ -68,7 +69,7 @@ pub fn begin(t: Table) -> State
     while i < rows {
         let r = t.rows[i];
         let e = Executed(r.wcet);
-        let o = r.offset as u64;
+        let o = crate::join::tagged(r.offset as u64, i);
         s.release[i] = o;
         s.need[i] = e;
         s.executed[i] = e;
@@ -173,34 +174,27 @@ pub fn run(
                 repeats: false,
             };
         }
-        let top = crate::join::top(s.next, time, rows);
-        let mut next = crate::join::from(s.next, time);
-        let mut i: usize = 0;
-        while i < top {
-            let release = s.release[i];
-            if release == time {
-                let r = t.rows[i];
-                let ask = slots::entry(requests, s.asked, r.wcet);
-                let j = crate::join::join(policy, r, i, time, ask);
-                let n = j.need;
-                let z = Executed(0);
-                s.need[i] = n;
-                s.executed[i] = z;
-                s.release[i] = j.release;
-                s.due[i] = j.due;
-                s.key[i] = j.key;
-                s.soonest = slots::sooner(s.soonest, j.due);
-                s.best = slots::sooner(s.best, j.key);
-                s.asked = slots::used(true, s.asked, requests.len());
-                next = slots::sooner(next, j.release);
-                i += 1;
-                continue;
-            }
-            next = slots::sooner(next, release);
-            i += 1;
+        while s.next / 16 == time {
+            let i = (s.next % 16) as usize;
+            let r = t.rows[i];
+            let ask = slots::entry(requests, s.asked, r.wcet);
+            let j = crate::join::join(policy, r, i, time, ask);
+            let n = j.need;
+            let z = Executed(0);
+            s.need[i] = n;
+            s.executed[i] = z;
+            s.release[i] = j.release;
+            s.due[i] = j.due;
+            s.key[i] = j.key;
+            s.soonest = slots::sooner(s.soonest, j.due);
+            s.best = slots::sooner(s.best, j.key);
+            s.asked = slots::used(true, s.asked, requests.len());
+            s.next = crate::least::least(blocks, &s.release);
         }
-        s.next = next;
-        let stop = slots::sooner(slots::sooner(end, mark), slots::sooner(next, s.soonest));
+        let stop = slots::sooner(
+            slots::sooner(end, mark),
+            slots::sooner(s.next / 16, s.soonest),
+        );
         if s.best == slots::NEVER {
             crate::paint::stretch(slots, time as usize, (stop - time) as usize, 0, 0, 0);
             let none = Loading(0);
@@ -214,7 +208,7 @@ pub fn run(
         let e = s.executed[p];
         let n = s.need[p];
         let left = s.left;
-        let again = slots::continues(s.last, p + 1, s.release[p], time + r.period as u64);
+        let again = slots::continues(s.last, p + 1, s.release[p] / 16, time + r.period as u64);
         let l = crate::turn::load(r, e, again, left, s.begun, loadings);
         let load = l.slots;
         let full = crate::turn::finish(time, load, n, e);
@@ -238,7 +232,7 @@ pub fn run(
             continue;
         }
         let none = Loading(0);
-        let took = slots::minus(r.period, slots::span(full, s.release[p]));
+        let took = slots::minus(r.period, slots::span(full, s.release[p] / 16));
         let gone = s.due[p];
         s.executed[p] = n;
         s.worst[p] = slots::greater(s.worst[p], took);
