@@ -4,7 +4,7 @@ use mathlib.Core.Path.{_≡_, refl, sym, ap, _∙_}
 use mathlib.Core.Logic.{_⊎_, inl, inr, _≢_}
 use mathlib.Core.Bool.{Bool, false, cond}
 use mathlib.Core.List.{List}
-use Prim.Native.Nat.{ℕ, suc, _+_, _-_, _≤_, _<_, min, max}
+use Prim.Native.Nat.{ℕ, suc, _+_, _-_, _/_, _≤_, _<_, min, max}
 use native.Mathlib.Omega.{arith}
 use native.Mathlib.Numerals.{add-one}
 use borrow.Author.Tests.{eq-eqb, ne-eqb, le-leb, lt-leb, leb-true, leb-false}
@@ -19,7 +19,7 @@ use Rattle.rules.specs.Slots as rules
 use Rattle.rules.specs.Slots.{newest, complete, loading, lengths}
 use Rattle.rules.specs.AsRun.{one, begins, asRun}
 use Rattle.basics.specs.Cases.{eq-case, clash}
-use Rattle.theory.specs.Counters.{newest-until}
+use Rattle.theory.specs.Counters.{until, newest-until}
 use Rattle.theory.specs.Jump.{whose, loads, Busy, gained, jump, newest-near}
 use Rattle.theory.specs.Completions.{Seen}
 use Rattle.slots.specs.Jobs.{never}
@@ -28,7 +28,7 @@ use Rattle.checker.specs.Least.{Least}
 use Rattle.checker.specs.Machine.{live, Sound, systemIn, choices, missAt, nothing, releaseIn, dueIn, needIn, executedIn, worstIn, At}
 use Rattle.checker.proofs.SoundTables.{fine-in, count-top}
 use Rattle.checker.proofs.Minima.{stays-empty}
-use Rattle.checker.proofs.Pass.{nowIn, Ready}
+use Rattle.checker.proofs.Pass.{nowIn, Ready, tag-parts}
 use Rattle.checker.proofs.Who.{begun-before, who-none}
 use Rattle.checker.proofs.Leap.{Near, periods, quiet-in, Moved, at-after, seen-on, seen-end}
 
@@ -253,7 +253,7 @@ module _ (p : ℕ) (t : Table) (sound : Sound t) (xs zs : List ℕ) (u : ℕ) (l
         })
 
       -- ITS JOB IS COMPLETE with them
-      module _ (all : v ≡ u + load + (needIn s i - executedIn s i)) (worst : ℕ) (took : worst ≡ max (worstIn s i) (row (live t) i .period - min (releaseIn s i - v) 4294967295))
+      module _ (all : v ≡ u + load + (needIn s i - executedIn s i)) (worst : ℕ) (took : worst ≡ max (worstIn s i) (row (live t) i .period - min (releaseIn s i / 16 - v) 4294967295))
           (soonest : ℕ) (soon : Least (t .count) (set (s .due) i never) soonest) (best : ℕ) (first : Least (t .count) (set (s .key) i never) best) where
         ends : State
         ends = endsState s i worst soonest best b
@@ -267,8 +267,20 @@ module _ (p : ℕ) (t : Table) (sound : Sound t) (xs zs : List ℕ) (u : ℕ) (l
         in-rows : i < length (live t)
         in-rows = omega (arith, sound .count, below)
 
-        in-time : v ≤ releaseIn s i
-        in-time = omega (arith, near .next, r .next .low i below)
+        release-is : releaseIn s i / 16 ≡ newest (row (live t) i) u + row (live t) i .period
+        release-is =
+            let pos = periods p t sound xs zs u low s₀ a s r v near i in-rows in
+            tag-parts (releaseIn s i) (suc u + until (row (live t) i) (suc u)) i (r .passed .joined i below .release) (in-array below (count-top t sound)) .0
+            ∙ sym (newest-until (row (live t) i) pos u (begun-before p t sound xs zs u low s₀ s r i below waits))
+          where
+            in-array : {k n : ℕ} → k < n → n ≤ 16 → k < 16
+            in-array x y = omega arith
+
+        in-time : v ≤ releaseIn s i / 16
+        in-time = not-after v (s .next) (releaseIn s i) (near .next) (r .next .low i below)
+          where
+            not-after : (x n m : ℕ) → x ≤ n / 16 → n ≤ m → x ≤ m / 16
+            not-after x n m b c = omega arith
 
         in-worst : i < length (s .worst)
         in-worst = omega (arith, r .passed .full .worst, below, count-top t sound)
@@ -279,20 +291,20 @@ module _ (p : ℕ) (t : Table) (sound : Sound t) (xs zs : List ℕ) (u : ℕ) (l
             rw (← j .need, ← j .executed) (served-all u v load (needIn s i) (executedIn s i) all free-some)
 
         -- the response of the job
-        response : v - newest (row (live t) i) u ≡ row (live t) i .period - min (releaseIn s i - v) 4294967295
+        response : v - newest (row (live t) i) u ≡ row (live t) i .period - min (releaseIn s i / 16 - v) 4294967295
         response =
             let g = fine-in t sound i below in
             let pos : 0 < row (live t) i .period = periods p t sound xs zs u low s₀ a s r v near i in-rows in
             let off = begun-before p t sound xs zs u low s₀ s r i below waits in
-            response-is u v (newest (row (live t) i) u) (row (live t) i .period) (releaseIn s i) (near .after) in-time
-            (newest-until (row (live t) i) pos u off ∙ sym (r .passed .joined i below .release)) (newest-near (row (live t) i) pos u off .0) (g .period-high)
+            response-is u v (newest (row (live t) i) u) (row (live t) i .period) (releaseIn s i / 16) (near .after) in-time
+            (sym release-is) (newest-near (row (live t) i) pos u off .0) (g .period-high)
 
         ends-seen : choices p t xs zs ≡ rules.stated (systemIn p t) → Seen (systemIn p t) i v worst
         ends-seen c =
             let z : u + (v - u) ≡ v = omega (arith, near .after) in
             let e = seen-end (systemIn p t) (periods p t sound xs zs u low s₀ a s r v near) u (v - u) (omega (arith, near .after)) (quiet-in p t sound xs zs u low s₀ a s r v near)
             (choices p t xs zs) c task-busy i in-rows (worstIn s₀ i) has (omega (arith, own-all)) (a .seen c i below) in
-            let m = took ∙ ap (λ l. max (getD l i 0) (row (live t) i .period - min (releaseIn s i - v) 4294967295)) (r .passed .worst) ∙ ap (max (worstIn s₀ i)) (sym response) in
+            let m = took ∙ ap (λ l. max (getD l i 0) (row (live t) i .period - min (releaseIn s i / 16 - v) 4294967295)) (r .passed .worst) ∙ ap (max (worstIn s₀ i)) (sym response) in
             rw m (rw z at e)
 
         ends-own : Moved p t sound xs zs u low s₀ a s r v near clear task-busy i ends

@@ -4,7 +4,7 @@ use mathlib.Core.Path.{_≡_, refl, sym, ap, _∙_}
 use mathlib.Core.Logic.{_⊎_, _≢_}
 use mathlib.Core.Bool.{Bool, true, false}
 use mathlib.Core.List.{List}
-use Prim.Native.Nat.{ℕ, suc, _+_, _-_, _*_, _%_, _≤_, _<_, min, max}
+use Prim.Native.Nat.{ℕ, suc, _+_, _-_, _*_, _/_, _%_, _≤_, _<_, min, max}
 use native.Mathlib.Omega.{arith}
 use native.Mathlib.Numerals.{add-one}
 use borrow.Author.Tests.{lt-ltb, leb-false}
@@ -24,13 +24,13 @@ use Rattle.checker.specs.declared.machine.State.{State}
 use Rattle.checker.specs.declared.marks.Mark.{Mark}
 use Rattle.checker.specs.declared.turn.ToLoad.{ToLoad}
 use Rattle.checker.specs.Least.{Least}
-use Rattle.checker.specs.Turns.{loadOf}
+use Rattle.checker.specs.Turns.{taggedOf, loadOf}
 use Rattle.checker.specs.Paint.{Painted, stretchId, stretchKind}
 use Rattle.checker.specs.Machine.{live, Sound, systemIn, choices, missAt, nothing, releaseIn, needIn, executedIn, worstIn, At, firstDue, Alike, Ran, PaintedRun}
 use Rattle.checker.proofs.SoundTables.{fine-in, count-top}
 use Rattle.checker.proofs.Minima.{stays-empty, least-part, least-drop}
 use Rattle.checker.proofs.Painted.{painted-none}
-use Rattle.checker.proofs.Pass.{nowIn, Passing, passing-start, Ready}
+use Rattle.checker.proofs.Pass.{nowIn, Ready, Joining, joining-start}
 use Rattle.checker.proofs.Who.{begun-before, who-first}
 use Rattle.checker.proofs.Loads.{loads-in, loadings-in}
 use Rattle.checker.proofs.Leap.{Near, quiet-in}
@@ -47,8 +47,8 @@ at-most n = omega arith
 back-on : (u v : ℕ) → u < v → u + (v - u) ≡ v
 back-on u v h = omega arith
 
-near-span : (u v n release q : ℕ) → v ≤ n → n ≤ release → release ≡ suc u + q → q < 10000 → v - u ≤ 4294967295
-near-span u v n release q a b c d = omega arith
+near-span : (u v n release q i : ℕ) → v ≤ n / 16 → n ≤ release → release ≡ taggedOf (suc u + q) i → i < 16 → q < 10000 → v - u ≤ 4294967295
+near-span u v n release q i a b c d e = omega arith
 
 -- the slots that are counted, where they end with `stop` and where they end with the job
 span-stop : (u stop full d : ℕ) → d ≡ min (min stop full - u) 4294967295 → stop < full → stop - u ≤ 4294967295 → d ≡ stop - u
@@ -136,17 +136,17 @@ module _ (p : ℕ) (t : Table) (sound : Sound t) (xs zs : List ℕ) (first : ℕ
         }
 
         -- JOBS JOIN, and the slots up to a time v go to whoever is first
-        pub passing-now : Passing p t xs zs u s 0 s
-        passing-now = passing-start p t sound xs zs u s (g .at) (ahead-of p t sound xs zs u below s (g .at) on-time)
+        pub joining-now : Joining p t xs zs u s s
+        joining-now = joining-start p t sound xs zs u low s (g .at) (ahead-of p t sound xs zs u below s (g .at) on-time)
 
-        module _ (more : u ≢ end) (s₁ : State) (r : Ready p t xs zs u s s₁) (stop : ℕ) (is : stop ≡ min (min end mark) (min (s₁ .next) (s₁ .soonest))) where
+        module _ (more : u ≢ end) (s₁ : State) (r : Ready p t xs zs u s s₁) (stop : ℕ) (is : stop ≡ min (min end mark) (min (s₁ .next / 16) (s₁ .soonest))) where
           pub stop-after : u < stop
           stop-after =
               let a : u < end = le-case end u (λ h. absurd (more (omega (arith, g .most)))) (λ h. h) in
               let b = mark-later p t xs zs first mark u was (g .watched) below kind later in
               omega (arith, is, a, b, r .later, r .passed .ahead)
 
-          near-next : (v : ℕ) → v ≤ stop → v ≤ s₁ .next
+          near-next : (v : ℕ) → v ≤ stop → v ≤ s₁ .next / 16
           near-next v h = omega (arith, is)
 
           near : (v : ℕ) → u < v → v ≤ stop → Near u v s₁
@@ -172,7 +172,7 @@ module _ (p : ℕ) (t : Table) (sound : Sound t) (xs zs : List ℕ) (first : ℕ
 
           -- task i has them
           module _ (some : s₁ .best ≢ never) (w : Row) (its : w ≡ row (live t) (s₁ .best % 16)) (again : Bool)
-              (on : again ≡ continuesOf (s₁ .last) (s₁ .best % 16 + 1) (releaseIn s₁ (s₁ .best % 16)) (u + w .period))
+              (on : again ≡ continuesOf (s₁ .last) (s₁ .best % 16 + 1) (releaseIn s₁ (s₁ .best % 16) / 16) (u + w .period))
               (l : ToLoad) (load : l ≡ loadOf w (getD (s₁ .executed) (s₁ .best % 16) nothing) again (s₁ .left) (s₁ .begun) zs)
               (full : ℕ) (fills : full ≡ u + l .slots .0 + (needIn s₁ (s₁ .best % 16) - executedIn s₁ (s₁ .best % 16)))
               (d : ℕ) (span : d ≡ min (min stop full - u) 4294967295) where
@@ -193,7 +193,7 @@ module _ (p : ℕ) (t : Table) (sound : Sound t) (xs zs : List ℕ) (first : ℕ
             in-span v h =
                 let f = fine-in t sound i (has .0) in
                 let c = counts (row (live t) i) (omega (arith, f .wcet-low, f .wcet-deadline, f .deadline-period)) (suc u) .soon (omega (arith, begun-before p t sound xs zs u low s s₁ r i (has .0) (has .2))) in
-                near-span u v (s₁ .next) (releaseIn s₁ i) (until (row (live t) i) (suc u)) (near-next v h) (r .next .low i (has .0)) (r .passed .joined i (has .0) .release) (within c (f .period-high))
+                near-span u v (s₁ .next) (releaseIn s₁ i) (until (row (live t) i) (suc u)) i (near-next v h) (r .next .low i (has .0)) (r .passed .joined i (has .0) .release) task-low (within c (f .period-high))
               where
                 within : {a b : ℕ} → a < b → b ≤ 10000 → a < 10000
                 within x y = omega arith
@@ -257,7 +257,7 @@ module _ (p : ℕ) (t : Table) (sound : Sound t) (xs zs : List ℕ) (first : ℕ
                     (i + 1) (add-one i ∙ sym (has .1)) (l .slots .0) to-load (w .id) its-id d (ap (λ n. u + n) d-stop ∙ back-on u stop stop-after) (g .painted) b)
 
               -- its job is complete with them
-              module _ (fits : full ≤ stop) (worst : ℕ) (took : worst ≡ max (worstIn s₁ i) (w .period - min (releaseIn s₁ i - full) 4294967295))
+              module _ (fits : full ≤ stop) (worst : ℕ) (took : worst ≡ max (worstIn s₁ i) (w .period - min (releaseIn s₁ i / 16 - full) 4294967295))
                   (blocks : ℕ) (enough : t .count ≤ 4 * blocks)
                   (soonest : ℕ) (soon : (getD (s₁ .due) i never ≡ s₁ .soonest → Least (4 * blocks) (set (s₁ .due) i never) soonest)
                   × (getD (s₁ .due) i never ≢ s₁ .soonest → soonest ≡ s₁ .soonest))

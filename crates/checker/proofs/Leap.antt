@@ -3,7 +3,7 @@
 use mathlib.Core.Path.{_≡_, sym, ap, _∙_, subst}
 use mathlib.Core.Bool.{true, false}
 use mathlib.Core.List.{List}
-use Prim.Native.Nat.{ℕ, suc, _+_, _-_, _≤_, _<_, max}
+use Prim.Native.Nat.{ℕ, suc, _+_, _-_, _/_, _≤_, _<_, max}
 use native.Mathlib.Omega.{arith}
 use lib.Dec.{leb}
 use lib.ListN.{drop, length}
@@ -20,8 +20,9 @@ use Rattle.theory.specs.Completions.{Seen, seen-served, seen-other}
 use Rattle.slots.specs.Jobs.{never}
 use Rattle.checker.specs.declared.machine.State.{State}
 use Rattle.checker.specs.Least.{Least}
+use Rattle.checker.specs.Turns.{taggedOf}
 use Rattle.checker.specs.Machine.{live, Sound, systemIn, choices, stateAt, missAt, releaseIn, dueIn, keyIn, needIn, executedIn, worstIn, Full, Unused, At}
-use Rattle.checker.proofs.SoundTables.{fine-in}
+use Rattle.checker.proofs.SoundTables.{fine-in, count-top}
 use Rattle.checker.proofs.Pass.{nowIn, Ready}
 use Rattle.checker.proofs.Who.{begun-before, due-is}
 
@@ -45,10 +46,14 @@ seen-end y pos u d some quiet c e = subst
 
 -- NOTHING HAPPENS before v
 
+-- a time not after the least is not after another
+tag-low : (v n release x i : ℕ) → v ≤ n / 16 → n ≤ release → release ≡ taggedOf x i → i < 16 → v ≤ x
+tag-low v n release x i a b e h = omega arith
+
 -- v is such a time
 pub record Near (u v : ℕ) (s : State) : Type 0 where
   pub after : u < v
-  pub next : v ≤ s .next
+  pub next : v ≤ s .next / 16
   pub soonest : v ≤ s .soonest
 
 module _ (p : ℕ) (t : Table) (sound : Sound t) (xs zs : List ℕ) (u : ℕ) (low : u ≤ 281474976710656) (s₀ : State) (a : At p t xs zs u s₀) (s : State) (r : Ready p t xs zs u s₀ s)
@@ -61,7 +66,7 @@ module _ (p : ℕ) (t : Table) (sound : Sound t) (xs zs : List ℕ) (u : ℕ) (l
 
   -- the release of a task is not before v
   release-on : (k : ℕ) → k < t .count → v ≤ suc u + until (row (live t) k) (suc u)
-  release-on k h = omega (arith, near .next, r .next .low k h, r .passed .joined k h .release)
+  release-on k h = tag-low v (s .next) (releaseIn s k) (suc u + until (row (live t) k) (suc u)) k (near .next) (r .next .low k h) (r .passed .joined k h .release) (omega (arith, h, count-top t sound))
 
   pub quiet-in : Quiet (systemIn p t) u (v - u)
   quiet-in k x h a b = quiet-until (row (live t) k) (periods k h) u x a (omega (arith, release-on k (task k h)))
@@ -144,11 +149,11 @@ module _ (p : ℕ) (t : Table) (sound : Sound t) (xs zs : List ℕ) (u : ℕ) (l
           record {
             need = n;
             executed = e;
-            release = m .release ∙ j .release ∙ release-after k h;
+            release = m .release ∙ j .release ∙ ap (λ x. taggedOf x k) (release-after k h);
             incomplete = λ c.
                 let i = m .incomplete (rw (n, e) c) in
                 let o = j .incomplete (i .0) in
-                rw (i .1, i .2, m .release) o;
+                rw (i .1, i .2) (rw (release-after k h) at o);
             complete = λ c. m .complete (rw (n, e) c);
           };
       rest = l .rest;

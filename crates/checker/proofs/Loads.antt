@@ -4,7 +4,7 @@ use mathlib.Core.Path.{_≡_, refl, sym, ap, _∙_}
 use mathlib.Core.Logic.{_≢_}
 use mathlib.Core.Bool.{Bool, false, cond}
 use mathlib.Core.List.{List}
-use Prim.Native.Nat.{ℕ, zero, suc, _+_, _<_, min}
+use Prim.Native.Nat.{ℕ, zero, suc, _+_, _/_, _<_, min}
 use native.Mathlib.Omega.{arith}
 use native.Mathlib.Nat.{zero-add}
 use borrow.Author.Tests.{eq-eqb, ne-eqb, lt-ltb, le-ltb}
@@ -28,8 +28,8 @@ use Rattle.checker.specs.declared.machine.State.{State}
 use Rattle.checker.specs.declared.turn.ToLoad.{ToLoad}
 use Rattle.checker.specs.Turns.{loadOf}
 use Rattle.checker.specs.Machine.{live, Sound, systemIn, choices, stateAt, nothing, releaseIn, At}
-use Rattle.checker.proofs.SoundTables.{fine-in}
-use Rattle.checker.proofs.Pass.{until-release, until-go, used-drop, nowIn, Ready}
+use Rattle.checker.proofs.SoundTables.{fine-in, count-top}
+use Rattle.checker.proofs.Pass.{until-release, until-go, used-drop, nowIn, Ready, tag-parts}
 
 -- one entry of a list, if it is used
 used-first : (zs l : List ℕ) (a : ℕ) (uses b : Bool) → drop a zs ≡ l → uses ≡ b → drop (usedOf uses a (length zs)) zs ≡ drop (one b) l
@@ -57,15 +57,15 @@ module _ (p : ℕ) (t : Table) (sound : Sound t) (xs zs : List ℕ) (u : ℕ) (s
       (λ k. clash (unreleased (systemIn p t) (choices p t xs zs) u i k) (sane (systemIn p t) (choices p t xs zs) u .current i e .1))
       (λ k. k)
 
-  release-is : releaseIn s i ≡ suc u + until (row (live t) i) (suc u)
-  release-is = r .passed .joined i below .release
+  release-is : releaseIn s i / 16 ≡ suc u + until (row (live t) i) (suc u)
+  release-is = tag-parts (releaseIn s i) (suc u + until (row (live t) i) (suc u)) i (r .passed .joined i below .release) (omega (arith, below, count-top t sound)) .0
 
-  continues-in : continuesOf (s .last) (suc i) (releaseIn s i) (u + row (live t) i .period) ≡ eqb (nowIn p t xs zs u .last) (suc i)
+  continues-in : continuesOf (s .last) (suc i) (releaseIn s i / 16) (u + row (live t) i .period) ≡ eqb (nowIn p t xs zs u .last) (suc i)
   continues-in = eq-case (stateAt p t xs zs u .last) (suc i)
       (λ e. rw (same-last, e, eq-eqb (suc i) (suc i) refl) (test (released (row (live t) i) u)
-      (λ j. rw j (le-ltb (releaseIn s i) (u + row (live t) i .period) (omega (arith, release-is, until-release (row (live t) i) pos u j))
+      (λ j. rw j (le-ltb (releaseIn s i / 16) (u + row (live t) i .period) (omega (arith, release-is, until-release (row (live t) i) pos u j))
       ∙ sym (ne-eqb 0 (suc i) (λ g. omega arith))))
-      (λ j. rw j (lt-ltb (releaseIn s i) (u + row (live t) i .period)
+      (λ j. rw j (lt-ltb (releaseIn s i / 16) (u + row (live t) i .period)
       (omega (arith, release-is, until-go (row (live t) i) pos u j, counts (row (live t) i) pos u .soon (started e)))
       ∙ sym (eq-eqb (suc i) (suc i) refl)))))
       (λ e. rw (same-last, ne-eqb (stateAt p t xs zs u .last) (suc i) e) (sym (unless-other (joins (systemIn p t) u) (stateAt p t xs zs u .last) i e)))
@@ -87,7 +87,7 @@ module _ (p : ℕ) (t : Table) (sound : Sound t) (xs zs : List ℕ) (u : ℕ) (s
       rw delay-in (rw e at (sym (getD-drop (s .begun) zs 0 (delay (row (live t) i) (nowIn p t xs zs u .executed i)))
       ∙ ap (λ l. getD l 0 (delay (row (live t) i) (nowIn p t xs zs u .executed i))) begun-in))
 
-  module _ (again : Bool) (on : again ≡ continuesOf (s .last) (suc i) (releaseIn s i) (u + row (live t) i .period))
+  module _ (again : Bool) (on : again ≡ continuesOf (s .last) (suc i) (releaseIn s i / 16) (u + row (live t) i .period))
       (l : ToLoad) (is : l ≡ loadOf (row (live t) i) (getD (s .executed) i nothing) again (s .left) (s .begun) zs) where
     goes-on : again ≡ eqb (nowIn p t xs zs u .last) (suc i)
     goes-on = on ∙ continues-in

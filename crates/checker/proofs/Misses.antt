@@ -55,8 +55,8 @@ on-time p w f x u i s low a from = test (rules.complete x i)
     let pos : 0 < w .period = omega (arith, f .deadline-period) in
     rw (e, due-until w pos some (f .deadline-period) u, lt-ltb (w .offset) u (from e))
     (eq-case (until w u + w .deadline) (w .period)
-    (λ q. rw (eq-eqb (until w u + w .deadline) (w .period) q, eq-eqb (dueIn s i) u (omega (arith, d, a .release))))
-    (λ q. rw (ne-eqb (until w u + w .deadline) (w .period) q, ne-eqb (dueIn s i) u (λ z. q (omega (arith, d, a .release, z)))))))
+    (λ q. rw (eq-eqb (until w u + w .deadline) (w .period) q, eq-eqb (dueIn s i) u (omega (arith, d))))
+    (λ q. rw (ne-eqb (until w u + w .deadline) (w .period) q, ne-eqb (dueIn s i) u (λ z. q (omega (arith, d, z)))))))
 
 module _ (p : ℕ) (t : Table) (sound : Sound t) (xs zs : List ℕ) (u : ℕ) (low : u < never) (s : State) (a : At p t xs zs u s) where
   task-on-time : (i : ℕ) → i < t .count → rules.onTime (systemIn p t) u (stateAt p t xs zs u) i ≡ not (eqb (dueIn s i) u)

@@ -1,10 +1,10 @@
--- Jobs join at time u, where nothing is missed: the pass over the rows. After i rows the tasks before i are as the rules have them once
--- jobs have joined, and the others are as they were. If no release is now, there is no pass, and all are so already.
+-- Jobs join at time u, where nothing is missed, row by row. After row i the tasks up to it are as the rules have them once jobs have
+-- joined, and the others are as they were. The least release tells which row is next: no row between has a release now.
 use mathlib.Core.Path.{_≡_, refl, sym, ap, _∙_}
 use mathlib.Core.Logic.{_⊎_, inl, inr, _≢_}
 use mathlib.Core.Bool.{Bool, true, false, cond}
 use mathlib.Core.List.{List, []}
-use Prim.Native.Nat.{ℕ, zero, suc, _+_, _-_, _≤_, _<_, min, pred}
+use Prim.Native.Nat.{ℕ, zero, suc, _+_, _-_, _*_, _/_, _%_, _≤_, _<_, min, pred}
 use native.Mathlib.Omega.{arith}
 use native.Mathlib.Nat.{add-zero}
 use borrow.Author.Tests.{eqb-false, eq-eqb, ne-eqb, lt-ltb, le-ltb, leb-true, leb-false}
@@ -24,10 +24,10 @@ use Rattle.slots.specs.Jobs.{never, usedOf, openOf}
 use Rattle.checker.specs.declared.machine.State.{State}
 use Rattle.checker.specs.declared.join.Joined.{Joined}
 use Rattle.checker.specs.Least.{Least}
-use Rattle.checker.specs.Turns.{rankOf, joinedOf, topOf, fromOf}
+use Rattle.checker.specs.Turns.{taggedOf, rankOf, joinedOf}
 use Rattle.checker.specs.Machine.{live, Sound, systemIn, choices, stateAt, nothing, releaseIn, dueIn, keyIn, needIn, executedIn, Full, TaskAt, Unused, At}
 use Rattle.checker.proofs.SoundTables.{fine-in, count-top}
-use Rattle.checker.proofs.Minima.{least-none, least-more, least-as, least-put}
+use Rattle.checker.proofs.Minima.{least-put, least-part}
 
 -- COUNTDOWNS
 
@@ -60,7 +60,7 @@ task-moves p w x v k a b m t = record {
   need = m .need ∙ t .need;
   executed = m .executed ∙ t .executed;
   release = m .release ∙ t .release;
-  incomplete = λ e. rw (m .due, m .release, m .key) (t .incomplete e);
+  incomplete = λ e. rw (m .due, m .key) (t .incomplete e);
   complete = λ e. rw (m .due, m .key) (t .complete e);
 }
 
@@ -71,13 +71,13 @@ module _ (p : ℕ) (w : Row) (pos : 0 < w .period) (x : rules.State) (u k : ℕ)
     need = t .need;
     executed = t .executed;
     release = omega (arith, t .release, until-go w pos u r);
-    incomplete = t .incomplete;
+    incomplete = λ e. (omega (arith, t .incomplete e .0, until-go w pos u r), t .incomplete e .1);
     complete = t .complete;
   })
 
   -- one joins
   task-joins : (ask : ℕ) → c k ≡ min ask (w .wcet) → released w u ≡ true
-      → needIn s k ≡ min ask (w .wcet) → executedIn s k ≡ 0 → releaseIn s k ≡ u + w .period
+      → needIn s k ≡ min ask (w .wcet) → executedIn s k ≡ 0 → releaseIn s k ≡ taggedOf (u + w .period) k
       → dueIn s k ≡ openOf (record { 0 = min ask (w .wcet) }) (u + w .deadline)
       → keyIn s k ≡ openOf (record { 0 = min ask (w .wcet) }) (rankOf p w k (u + w .deadline))
       → TaskAt p w (rules.release (λ j. released w u) c x) (suc u) k s
@@ -88,7 +88,7 @@ module _ (p : ℕ) (w : Row) (pos : 0 < w .period) (x : rules.State) (u k : ℕ)
     incomplete = λ g.
         let some : min ask (w .wcet) ≢ 0 = λ z. omega (arith, leb-false (c k) 0 g, e, z) in
         let d = due ∙ ap (λ (b : Bool). cond b never (u + w .deadline)) (ne-eqb (min ask (w .wcet)) 0 some) in
-        (omega (arith, d, release), key ∙ ap (λ (b : Bool). cond b never (rankOf p w k (u + w .deadline))) (ne-eqb (min ask (w .wcet)) 0 some) ∙ ap (rankOf p w k) (sym d));
+        (omega (arith, d, until-release w pos u r), key ∙ ap (λ (b : Bool). cond b never (rankOf p w k (u + w .deadline))) (ne-eqb (min ask (w .wcet)) 0 some) ∙ ap (rankOf p w k) (sym d));
     complete = λ g.
         let none : min ask (w .wcet) ≡ 0 = omega (arith, leb-true (c k) 0 g, e) in (
           due ∙ ap (λ (b : Bool). cond b never (u + w .deadline)) (eq-eqb (min ask (w .wcet)) 0 none),
@@ -131,40 +131,23 @@ pub record Ready (p : ℕ) (t : Table) (xs zs : List ℕ) (u : ℕ) (s₀ s : St
   pub passed : Passing p t xs zs u s₀ (t .count) s
   pub rest : (k : ℕ) → t .count ≤ k → Unused k s
   pub next : Least (t .count) (s .release) (s .next)
-  pub later : u < s .next
+  pub later : u < s .next / 16
 
--- the state with a new job of task i, and with the next release
-abbrev pub withJoined : State → ℕ → Joined → ℕ → State
-withJoined s i j n = record {
+-- the state with a new job of task i
+abbrev pub withJoined : State → ℕ → Joined → ℕ → ℕ → State
+withJoined s i j n next = record {
   release = set (s .release) i (j .release);
   due = set (s .due) i (j .due);
   key = set (s .key) i (j .key);
   need = set (s .need) i (j .need);
   executed = set (s .executed) i nothing;
   worst = s .worst;
-  next = s .next;
+  next = next;
   soonest = min (s .soonest) (j .due);
   best = min (s .best) (j .key);
   last = s .last;
   left = s .left;
   asked = usedOf true (s .asked) n;
-  begun = s .begun;
-}
-
-abbrev pub withNext : State → ℕ → State
-withNext s n = record {
-  release = s .release;
-  due = s .due;
-  key = s .key;
-  need = s .need;
-  executed = s .executed;
-  worst = s .worst;
-  next = n;
-  soonest = s .soonest;
-  best = s .best;
-  last = s .last;
-  left = s .left;
-  asked = s .asked;
   begun = s .begun;
 }
 
@@ -191,10 +174,10 @@ module _ (p : ℕ) (t : Table) (sound : Sound t) (xs zs : List ℕ) (u : ℕ) (s
     task : TaskAt p (row (live t) i) (stateAt p t xs zs u) u i s
     task = task-moves p (row (live t) i) (stateAt p t xs zs u) u i s₀ s (q .others i (omega arith)) (a .tasks i h)
 
-    released-now : releaseIn s i ≡ u → released (row (live t) i) u ≡ true
+    released-now : releaseIn s i ≡ taggedOf u i → released (row (live t) i) u ≡ true
     released-now e = released-until (row (live t) i) (pos i h) u ∙ eq-eqb (until (row (live t) i) u) 0 (omega (arith, task .release))
 
-    pub released-later : releaseIn s i ≢ u → released (row (live t) i) u ≡ false
+    pub released-later : releaseIn s i ≢ taggedOf u i → released (row (live t) i) u ≡ false
     released-later e = released-until (row (live t) i) (pos i h) u ∙ ne-eqb (until (row (live t) i) u) 0 (λ z. e (omega (arith, task .release)))
 
     -- no job of row i joins
@@ -223,10 +206,10 @@ module _ (p : ℕ) (t : Table) (sound : Sound t) (xs zs : List ℕ) (u : ℕ) (s
     }
 
     -- its job joins: the one before is complete, for its deadline is past
-    module _ (e : releaseIn s i ≡ u) where
+    module _ (e : releaseIn s i ≡ taggedOf u i) (next : ℕ) where
       was-complete : complete (stateAt p t xs zs u) i ≡ true
       was-complete = test (complete (stateAt p t xs zs u) i) (λ c. c)
-          (λ c. absurd (omega (arith, task .incomplete c .0, e, q .soonest .low i h, q .ahead, fine-in t sound i h .deadline-period)))
+          (λ c. absurd (omega (arith, task .incomplete c .0, task .release, e, q .soonest .low i h, q .ahead, fine-in t sound i h .deadline-period)))
 
       -- its request is the next of the list
       ask : getD xs (s .asked) (row (live t) i .wcet) ≡ choices p t xs zs u .ask i
@@ -241,7 +224,7 @@ module _ (p : ℕ) (t : Table) (sound : Sound t) (xs zs : List ℕ) (u : ℕ) (s
       new = joinedOf p (row (live t) i) i u (getD xs (s .asked) (row (live t) i .wcet))
 
       after : State
-      after = withJoined s i new (length xs)
+      after = withJoined s i new (length xs) next
 
       in-release : i < length (s .release)
       in-release = omega (arith, q .full .release, count-top t sound)
@@ -318,115 +301,150 @@ module _ (p : ℕ) (t : Table) (sound : Sound t) (xs zs : List ℕ) (u : ℕ) (s
       }
 
       pub passing-joins : (j : Joined) → j ≡ joinedOf p (row (live t) i) i u (getD xs (s .asked) (row (live t) i .wcet))
-          → Passing p t xs zs u s₀ (suc i) (withJoined s i j (length xs))
+          → Passing p t xs zs u s₀ (suc i) (withJoined s i j (length xs) next)
       unfolding new after
       passing-joins j g = rw g passing-new
 
--- THE NEXT RELEASE: found anew by the pass, and kept where there is no pass
+-- ROWS IN TURN, by the least release
 
-pub record Onward (u : ℕ) (s₀ : State) (i : ℕ) (s : State) (next : ℕ) : Type 0 where
-  pub anew : s₀ .next ≡ u → Least i (s .release) next
-  pub kept : s₀ .next ≢ u → next ≡ s₀ .next
+pub tag-parts : (n x i : ℕ) → n ≡ taggedOf x i → i < 16 → (n / 16 ≡ x) × (n % 16 ≡ i)
+tag-parts n x i e h = (omega arith, omega arith)
 
-pub onward-start : (u : ℕ) (s : State) (next : ℕ) → next ≡ fromOf (s .next) u → Onward u s 0 s next
-onward-start u s next e = record {
-  anew = λ g. rw (e ∙ ap (λ (b : Bool). cond b never (s .next)) (eq-eqb (s .next) u g)) (least-none (s .release));
-  kept = λ g. e ∙ ap (λ (b : Bool). cond b never (s .next)) (ne-eqb (s .next) u g);
-}
+-- two tagged numbers of different rows differ
+tag-apart : (x y i j : ℕ) → i < 16 → j < 16 → taggedOf x i ≡ taggedOf y j → i ≡ j
+tag-apart x y i j a b e = omega arith
 
--- a pass is made only if the next release is now
-pub passes : (next u rows i : ℕ) → i < topOf next u rows → next ≡ u
-passes next u rows i h = eq-case next u (λ e. e) (λ e. absurd (none (rw (ne-eqb next u e) at h)))
-  where
-    none : i < 0 → ⊥
-    none k = omega arith
+-- so far: the tasks below i have joined
+pub record Joining (p : ℕ) (t : Table) (xs zs : List ℕ) (u : ℕ) (s₀ s : State) : Type 0 where
+  pub i : ℕ
+  pub low : i ≤ t .count
+  pub passing : Passing p t xs zs u s₀ i s
+  pub next : Least (t .count) (s .release) (s .next)
+  pub rest : (k : ℕ) → t .count ≤ k → Unused k s
 
-module _ (u : ℕ) (s₀ : State) (i : ℕ) (s : State) (next : ℕ) (o : Onward u s₀ i s next) (now : s₀ .next ≡ u) where
-  pub onward-by : Onward u s₀ (suc i) s (min next (releaseIn s i))
-  onward-by = record { anew = λ e. least-more i (s .release) next (o .anew e); kept = λ e. absurd (e now) }
+module _ (p : ℕ) (t : Table) (sound : Sound t) (xs zs : List ℕ) (u : ℕ) (high : u ≤ 281474976710656) (s₀ : State) (a : At p t xs zs u s₀) where
+  pub joining-start : u < s₀ .soonest → Joining p t xs zs u s₀ s₀
+  joining-start ahead = record { i = 0; low = omega arith; passing = passing-start p t sound xs zs u s₀ a ahead; next = a .next; rest = a .rest }
 
-  pub onward-joins : (j : Joined) (n : ℕ) → i < length (s .release) → Onward u s₀ (suc i) (withJoined s i j n) (min next (j .release))
-  onward-joins j n inside = record {
-    anew = λ e. rw (getD-set-same (s .release) i (j .release) never inside) at
-        (least-more i (set (s .release) i (j .release)) next
-        (least-as i (s .release) (set (s .release) i (j .release)) next (λ k h. getD-set-other (s .release) i k (j .release) never (λ g. omega arith)) (o .anew e)));
-    kept = λ e. absurd (e now);
-  }
+  module _ (s : State) (g : Joining p t xs zs u s₀ s) where
+    -- rows without a release now are gone through
+    all-by : (n : ℕ) → g .i + n ≤ t .count → ((k : ℕ) → g .i ≤ k → k < g .i + n → releaseIn s k ≢ taggedOf u k) → Passing p t xs zs u s₀ (g .i + n) s
+    all-by zero h f = rw (add-zero (g .i)) (g .passing)
+    all-by (suc n) h f =
+        let b = all-by n (omega arith) (λ k l m. f k l (omega arith)) in
+        let e : g .i + suc n ≡ suc (g .i + n) = omega arith in
+        let l : g .i + n < t .count = omega arith in
+        rw e (passing-by p t sound xs zs u s₀ a (g .i + n) l s b (released-later p t sound xs zs u s₀ a (g .i + n) l s b (f (g .i + n) (omega arith) (omega arith))))
 
--- THE END OF THE PASS
+    -- the release of a task that has joined is later; of one that has not, it is now or later
+    tag-of : (k : ℕ) → k < t .count → (x : ℕ) × (releaseIn s k ≡ taggedOf x k) × (u ≤ x) × (k < g .i → u < x)
+    tag-of k h = le-case (g .i) k
+        (λ l. (_, g .passing .others k l .release ∙ a .tasks k h .release, omega arith, λ m. absurd (omega arith)))
+        (λ l. (_, g .passing .joined k l .release, omega arith, λ m. omega arith))
 
-passing-next : (p : ℕ) (t : Table) (xs zs : List ℕ) (u : ℕ) (s₀ : State) (i : ℕ) (s : State) (n : ℕ) → Passing p t xs zs u s₀ i s → Passing p t xs zs u s₀ i (withNext s n)
-passing-next p t xs zs u s₀ i s n q = record {
-  full = record { release = q .full .release; due = q .full .due; key = q .full .key; need = q .full .need; executed = q .full .executed; worst = q .full .worst };
-  joined = λ k h.
-      let j = q .joined k h in
-      record { need = j .need; executed = j .executed; release = j .release; incomplete = j .incomplete; complete = j .complete };
-  others = λ k h.
-      let m = q .others k h in
-      record { release = m .release; due = m .due; key = m .key; need = m .need; executed = m .executed };
-  soonest = q .soonest;
-  ahead = q .ahead;
-  best = q .best;
-  worst = q .worst;
-  last = q .last;
-  left = q .left;
-  begun = q .begun;
-  asked = q .asked;
-}
+    row-top : (k : ℕ) → k < t .count → k < 16
+    row-top k h = omega (arith, count-top t sound)
 
-module _ (p : ℕ) (t : Table) (sound : Sound t) (xs zs : List ℕ) (u : ℕ) (s₀ : State) (a : At p t xs zs u s₀) where
-  -- no next release is before now
-  next-low : u ≤ s₀ .next
-  next-low = go (a .next .hit)
-    where
-      go : (s₀ .next ≡ never) ⊎ ((i : ℕ) × (i < t .count) × (releaseIn s₀ i ≡ s₀ .next)) → u ≤ s₀ .next
-      go (inl e) = omega (arith, e, a .ahead, a .soonest .top)
-      go (inr k) = omega (arith, k .2, a .tasks (k .0) (k .1) .release)
+    -- A RELEASE IS NOW
+    module _ (now : s .next / 16 ≡ u) where
+      abbrev row-now : ℕ
+      row-now = s .next % 16
 
-  module _ (i : ℕ) (s : State) (next : ℕ) (q : Passing p t xs zs u s₀ i s) (o : Onward u s₀ i s next) where
-    -- where no release is now, every row has been gone through
-    all-by : s₀ .next ≢ u → (n : ℕ) → i + n ≤ t .count → Passing p t xs zs u s₀ (i + n) s
-    all-by e zero h = rw (add-zero i) q
-    all-by e (suc n) h =
-        let b = all-by e n (omega arith) in
-        let g : i + suc n ≡ suc (i + n) = omega arith in
-        let l : i + n < t .count = omega arith in
-        let later : releaseIn s (i + n) ≢ u = λ z. omega (arith, z, b .others (i + n) (omega arith) .release, a .next .low (i + n) l, next-low, apart e) in
-        rw g (passing-by p t sound xs zs u s₀ a (i + n) l s b (released-later p t sound xs zs u s₀ a (i + n) l s b later))
-      where
-        apart : s₀ .next ≢ u → u < s₀ .next
-        apart f = le-case (s₀ .next) u (λ k. absurd (f (omega (arith, next-low)))) (λ k. k)
-
-    module _ (low : i ≤ topOf (s₀ .next) u (t .count)) (high : topOf (s₀ .next) u (t .count) ≤ i) where
-      passed : Passing p t xs zs u s₀ (t .count) s
-      passed = eq-case (s₀ .next) u
-          (λ e. let g : i ≡ t .count = omega (arith, rw (eq-eqb (s₀ .next) u e) at low, rw (eq-eqb (s₀ .next) u e) at high) in rw g at q)
-          (λ e.
-          let z : i ≡ 0 = omega (arith, rw (ne-eqb (s₀ .next) u e) at low) in
-          let g : i + t .count ≡ t .count = omega arith in
-          rw g at (all-by e (t .count) (omega arith)))
-
-      least-next : Least (t .count) (s .release) next
-      least-next = eq-case (s₀ .next) u
-          (λ e. let g : i ≡ t .count = omega (arith, rw (eq-eqb (s₀ .next) u e) at low, rw (eq-eqb (s₀ .next) u e) at high) in rw g at (o .anew e))
-          (λ e.
-          let z : i ≡ 0 = omega (arith, rw (ne-eqb (s₀ .next) u e) at low) in
-          rw (o .kept e) (least-as (t .count) (s₀ .release) (s .release) (s₀ .next) (λ k h. q .others k (omega arith) .release) (a .next)))
-
-      next-later : u < next
-      next-later = go (least-next .hit)
+      found : (row-now < t .count) × (g .i ≤ row-now) × (s .next ≡ taggedOf u row-now) × (releaseIn s row-now ≡ taggedOf u row-now)
+      found = go (g .next .hit)
         where
-          go : (next ≡ never) ⊎ ((k : ℕ) × (k < t .count) × (releaseIn s k ≡ next)) → u < next
-          go (inl e) = omega (arith, e, q .ahead, q .soonest .top)
-          go (inr k) = omega (arith, k .2, passed .joined (k .0) (k .1) .release)
+          go : (s .next ≡ never) ⊎ ((k : ℕ) × (k < t .count) × (releaseIn s k ≡ s .next))
+              → (row-now < t .count) × (g .i ≤ row-now) × (s .next ≡ taggedOf u row-now) × (releaseIn s row-now ≡ taggedOf u row-now)
+          go (inl e) = absurd (omega (arith, e, now, high))
+          go (inr x) =
+              let z = tag-of (x .0) (x .1) in
+              let q = tag-parts (s .next) (z .0) (x .0) (sym (x .2) ∙ z .1) (row-top (x .0) (x .1)) in
+              let w : z .0 ≡ u = sym (q .0) ∙ now in
+              let n : s .next ≡ taggedOf u (x .0) = sym (x .2) ∙ z .1 ∙ ap (λ y. taggedOf y (x .0)) w in
+              rw (q .1) (
+                x .1,
+                le-case (g .i) (x .0) (λ l. l) (λ l. absurd (omega (arith, z .3 l, w))),
+                n,
+                z .1 ∙ ap (λ y. taggedOf y (x .0)) w,
+              )
 
-      pub ready : Ready p t xs zs u s₀ (withNext s next)
-      ready = record {
-        passed = passing-next p t xs zs u s₀ (t .count) s next passed;
-        rest = λ k h.
-            let m = passed .others k h in
-            let r = a .rest k h in
-            record { release = m .release ∙ r .release; due = m .due ∙ r .due; key = m .key ∙ r .key };
-        next = least-next;
-        later = next-later;
-      }
+      pub row-below : row-now < t .count
+      row-below = found .0
+
+      -- no row before it has a release now
+      before-row : (k : ℕ) → g .i ≤ k → k < row-now → releaseIn s k ≢ taggedOf u k
+      before-row k l m e = omega (arith, e, found .2, g .next .low k (omega (arith, found .0)), m)
+
+      passing-to : Passing p t xs zs u s₀ row-now s
+      passing-to =
+          let e : g .i + (row-now - g .i) ≡ row-now = omega (arith, found .1) in
+          rw e at (all-by (row-now - g .i) (omega (arith, found .0, found .1)) (λ k l m. before-row k l (omega (arith, m, found .1))))
+
+      module _ (j : Joined) (is : j ≡ joinedOf p (row (live t) row-now) row-now u (getD xs (s .asked) (row (live t) row-now .wcet)))
+          (blocks : ℕ) (enough : t .count ≤ 4 * blocks) (n : ℕ) (least : Least (4 * blocks) (set (s .release) row-now (j .release)) n) where
+        in-array : row-now < length (s .release)
+        in-array = omega (arith, g .passing .full .release, row-top row-now (found .0))
+
+        release-is : j .release ≡ taggedOf (u + row (live t) row-now .period) row-now
+        release-is = ap (λ (x : Joined). x .release) is
+
+        rest-after : (k : ℕ) → t .count ≤ k → getD (set (s .release) row-now (j .release)) k never ≡ never
+        rest-after k h = getD-set-other (s .release) row-now k (j .release) never (λ e. omega (arith, e, h, found .0)) ∙ g .rest k h .release
+
+        next-after : Least (t .count) (set (s .release) row-now (j .release)) n
+        next-after = least-part (t .count) (4 * blocks) (set (s .release) row-now (j .release)) n enough rest-after least
+
+        pub joining-turn : Joining p t xs zs u s₀ (withJoined s row-now j (length xs) n)
+        joining-turn = record {
+          i = suc row-now;
+          low = omega (arith, found .0);
+          passing = passing-joins p t sound xs zs u s₀ a row-now (found .0) s passing-to (found .3) n j is;
+          next = next-after;
+          rest = λ k h. let r = g .rest k h in record {
+            release = rest-after k h;
+            due = getD-set-other (s .due) row-now k (j .due) never (λ e. omega (arith, e, h, found .0)) ∙ r .due;
+            key = getD-set-other (s .key) row-now k (j .key) never (λ e. omega (arith, e, h, found .0)) ∙ r .key;
+          };
+        }
+
+        -- the next is later
+        pub joining-less : s .next < n
+        joining-less = go (next-after .hit)
+          where
+            between : (m o r : ℕ) → r ≡ m → m ≤ o → o ≤ r → r ≡ o
+            between m o r e l k = omega arith
+
+            go : (n ≡ never) ⊎ ((k : ℕ) × (k < t .count) × (getD (set (s .release) row-now (j .release)) k never ≡ n)) → s .next < n
+            go (inl e) = omega (arith, e, found .2, row-top row-now (found .0), high)
+            go (inr x) = eq-case (x .0) row-now
+                (λ e. omega (arith, rw e at (x .2), getD-set-same (s .release) row-now (j .release) never in-array, release-is, found .2, pos p t sound xs zs u s₀ a row-now (found .0)))
+                (λ e.
+                let b = getD-set-other (s .release) row-now (x .0) (j .release) never e in
+                let z = tag-of (x .0) (x .1) in
+                le-case n (s .next)
+                (λ l. absurd (e (tag-apart (z .0) u (x .0) row-now (row-top (x .0) (x .1)) (row-top row-now (found .0))
+                (sym (z .1) ∙ between n (s .next) (releaseIn s (x .0)) (sym b ∙ x .2) l (g .next .low (x .0) (x .1)) ∙ found .2))))
+                (λ l. l))
+
+    -- NO RELEASE IS NOW
+    pub ready : s .next / 16 ≢ u → Ready p t xs zs u s₀ s
+    ready apart = record {
+      passed = let e : g .i + (t .count - g .i) ≡ t .count = omega (arith, g .low) in
+          rw e at (all-by (t .count - g .i) (omega (arith, g .low)) (λ k l m. none k (omega (arith, m, g .low))));
+      rest = g .rest;
+      next = g .next;
+      later = after;
+    }
+      where
+        after : u < s .next / 16
+        after = go (g .next .hit)
+          where
+            go : (s .next ≡ never) ⊎ ((k : ℕ) × (k < t .count) × (releaseIn s k ≡ s .next)) → u < s .next / 16
+            go (inl e) = omega (arith, e, high)
+            go (inr x) =
+                let z = tag-of (x .0) (x .1) in
+                let q = tag-parts (s .next) (z .0) (x .0) (sym (x .2) ∙ z .1) (row-top (x .0) (x .1)) in
+                le-case (s .next / 16) u (λ l. absurd (apart (omega (arith, l, q .0, z .2)))) (λ l. l)
+
+        none : (k : ℕ) → k < t .count → releaseIn s k ≢ taggedOf u k
+        none k h e = omega (arith, e, g .next .low k h, row-top k h, after)

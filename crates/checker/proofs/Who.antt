@@ -6,7 +6,6 @@ use mathlib.Core.Bool.{false}
 use mathlib.Core.List.{List}
 use Prim.Native.Nat.{ℕ, zero, suc, _+_, _*_, _%_, _≤_, _<_}
 use native.Mathlib.Omega.{arith}
-use native.Mathlib.Nat.{mul-add-mod-self-right, mod-eq-of-lt}
 use borrow.Author.Tests.{ne-eqb}
 use Rattle.rules.specs.declared.Row.{Row}
 use Rattle.rules.specs.declared.Table.{Table}
@@ -21,7 +20,7 @@ use Rattle.slots.specs.Jobs.{never, keyOf}
 use Rattle.checker.specs.declared.machine.State.{State}
 use Rattle.checker.specs.Machine.{live, Sound, systemIn, choices, dueIn, keyIn}
 use Rattle.checker.proofs.SoundTables.{fine-in, count-top}
-use Rattle.checker.proofs.Pass.{nowIn, Ready}
+use Rattle.checker.proofs.Pass.{nowIn, Ready, tag-parts}
 
 -- the code's key is the policy's
 policy-key : (p : ℕ) (w : Row) (n : ℕ) → keyOf p w (n + w .deadline) ≡ policy p w n
@@ -40,10 +39,6 @@ policy-high (suc (suc zero)) w f n = omega (arith, f .period-high)
 policy-high (suc (suc (suc zero))) w f n = omega (arith, f .deadline-period, f .period-high)
 policy-high (suc (suc (suc (suc p)))) w f n = omega (arith, f .deadline-period, f .period-high)
 
--- the row, from the key
-key-row : (b a i : ℕ) → b ≡ a * 16 + i → i < 16 → b % 16 ≡ i
-key-row b a i e h = rw e (mul-add-mod-self-right a 16 i ∙ mod-eq-of-lt h)
-
 module _ (p : ℕ) (t : Table) (sound : Sound t) (xs zs : List ℕ) (u : ℕ) (low : u ≤ 281474976710656) (s₀ s : State) (r : Ready p t xs zs u s₀ s) where
   module _ (k : ℕ) (h : k < t .count) (e : complete (nowIn p t xs zs u) k ≡ false) where
     fine : Fine (row (live t) k)
@@ -56,7 +51,7 @@ module _ (p : ℕ) (t : Table) (sound : Sound t) (xs zs : List ℕ) (u : ℕ) (l
     begun-before = incomplete (systemIn p t) (choices p t xs zs) u k e
 
     pub due-is : dueIn s k ≡ newest (row (live t) k) u + row (live t) k .deadline
-    due-is = omega (arith, r .passed .joined k h .incomplete e .0, r .passed .joined k h .release, newest-until (row (live t) k) period-some u begun-before)
+    due-is = omega (arith, r .passed .joined k h .incomplete e .0, newest-until (row (live t) k) period-some u begun-before)
 
     key-is : keyIn s k ≡ rank (systemIn p t) u k * 16 + k
     key-is = r .passed .joined k h .incomplete e .1 ∙ ap (λ d. keyOf p (row (live t) k) d * 16 + k) due-is
@@ -89,7 +84,7 @@ module _ (p : ℕ) (t : Table) (sound : Sound t) (xs zs : List ℕ) (u : ℕ) (l
           let c : complete (nowIn p t xs zs u) (x .0) ≡ false =
           test (complete (nowIn p t xs zs u) (x .0)) (λ c. absurd (some (sym (x .2) ∙ r .passed .joined (x .0) (x .1) .complete c .1))) (λ c. c) in
           let b : s .best ≡ rank (systemIn p t) u (x .0) * 16 + x .0 = sym (x .2) ∙ key-is (x .0) (x .1) c in
-          let i : s .best % 16 ≡ x .0 = key-row (s .best) (rank (systemIn p t) u (x .0)) (x .0) b (omega (arith, x .1, count-top t sound)) in
+          let i : s .best % 16 ≡ x .0 = tag-parts (s .best) (rank (systemIn p t) u (x .0)) (x .0) b (omega (arith, x .1, count-top t sound)) .1 in
           rw i (
             x .1,
             ap (pick (rank (systemIn p t) u) (complete (nowIn p t xs zs u))) (sound .count)
