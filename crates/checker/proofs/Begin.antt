@@ -1,5 +1,5 @@
--- The state at time 0. The loop of `begin` fills in one row after the other: the first release at the offset, and a job that is
--- complete, so no deadline and no key. Once all rows are filled in, the state stands for the rules' begin.
+-- The state at time 0. The loop of `begin` fills in one row after the other: the first release at the offset, with its row, and a job
+-- that is complete, so no deadline and no key. Once all rows are filled in, the state stands for the rules' begin.
 use mathlib.Core.Path.{_≡_, refl, sym, ap, _∙_, subst}
 use mathlib.Core.Logic.{inl, _≢_}
 use mathlib.Core.List.{List}
@@ -22,6 +22,7 @@ use Rattle.theory.specs.Completions.{seen-start}
 use Rattle.slots.specs.Jobs.{never}
 use Rattle.checker.specs.declared.machine.State.{State}
 use Rattle.checker.specs.Least.{Least}
+use Rattle.checker.specs.Turns.{taggedOf}
 use Rattle.checker.specs.Machine.{live, Sound, systemIn, stateAt, nothing, releaseIn, dueIn, keyIn, TaskAt, At}
 use Rattle.checker.proofs.Minima.{least-put}
 use Rattle.checker.proofs.SoundTables.{row-in}
@@ -76,7 +77,7 @@ over s release need executed next = record {
 
 -- row w is in place k
 pub record Filled (w : Row) (k : ℕ) (times : List ℕ) (whole had : List Executed) : Type 0 where
-  pub release : getD times k never ≡ w .offset
+  pub release : getD times k never ≡ taggedOf (w .offset) k
   pub need : getD whole k nothing .0 ≡ w .wcet
   pub executed : getD had k nothing .0 ≡ w .wcet
 
@@ -108,35 +109,36 @@ module _ (t : Table) (i : ℕ) (below : i < t .count) (few : t .count ≤ 16) (s
   abbrev done : Executed
   done = record { 0 = w .wcet }
 
-  filled-here : Filled w i (set (s .release) i (w .offset)) (set (s .need) i done) (set (s .executed) i done)
-  filled-here = record {
-    release = getD-set-same (s .release) i (w .offset) never (omega (arith, b .release));
-    need = ap (λ (e : Executed). e .0) (getD-set-same (s .need) i done nothing (omega (arith, b .need)));
-    executed = ap (λ (e : Executed). e .0) (getD-set-same (s .executed) i done nothing (omega (arith, b .executed)));
-  }
+  -- o is its release
+  module _ (o : ℕ) (tag : o ≡ taggedOf (w .offset) i) where
+    filled-here : Filled w i (set (s .release) i o) (set (s .need) i done) (set (s .executed) i done)
+    filled-here = record {
+      release = getD-set-same (s .release) i o never (omega (arith, b .release)) ∙ tag;
+      need = ap (λ (e : Executed). e .0) (getD-set-same (s .need) i done nothing (omega (arith, b .need)));
+      executed = ap (λ (e : Executed). e .0) (getD-set-same (s .executed) i done nothing (omega (arith, b .executed)));
+    }
 
-  filled-still : (k : ℕ) → k < i → Filled (getD (t .rows) k noRow) k (set (s .release) i (w .offset)) (set (s .need) i done) (set (s .executed) i done)
-  filled-still k h =
-      let apart : k ≢ i = λ e. omega arith in
-      record {
-        release = getD-set-other (s .release) i k (w .offset) never apart ∙ b .tasks k h .release;
-        need = ap (λ (e : Executed). e .0) (getD-set-other (s .need) i k done nothing apart) ∙ b .tasks k h .need;
-        executed = ap (λ (e : Executed). e .0) (getD-set-other (s .executed) i k done nothing apart) ∙ b .tasks k h .executed;
-      }
+    filled-still : (k : ℕ) → k < i → Filled (getD (t .rows) k noRow) k (set (s .release) i o) (set (s .need) i done) (set (s .executed) i done)
+    filled-still k h =
+        let apart : k ≢ i = λ e. omega arith in
+        record {
+          release = getD-set-other (s .release) i k o never apart ∙ b .tasks k h .release;
+          need = ap (λ (e : Executed). e .0) (getD-set-other (s .need) i k done nothing apart) ∙ b .tasks k h .need;
+          executed = ap (λ (e : Executed). e .0) (getD-set-other (s .executed) i k done nothing apart) ∙ b .tasks k h .executed;
+        }
 
-  pub begun-turn : (next : ℕ) → next ≡ min (s .next) (w .offset)
-      → Begun t (i + 1) (over s (set (s .release) i (w .offset)) (set (s .need) i done) (set (s .executed) i done) next)
-  begun-turn next e = record {
-    others = ap (λ (x : State). over x (set (s .release) i (w .offset)) (set (s .need) i done) (set (s .executed) i done) next) (b .others);
-    release = length-set (s .release) i (w .offset) ∙ b .release;
-    need = length-set (s .need) i done ∙ b .need;
-    executed = length-set (s .executed) i done ∙ b .executed;
-    tasks =
-        below-more (λ k. Filled (getD (t .rows) k noRow) k (set (s .release) i (w .offset)) (set (s .need) i done) (set (s .executed) i done)) i
-        filled-still filled-here;
-    rest = λ k h. getD-set-other (s .release) i k (w .offset) never (λ q. omega arith) ∙ b .rest k (omega arith);
-    next = rw e (least-put (t .count) (s .release) (s .next) i (omega (arith, b .release)) (b .next) (w .offset) below (b .rest i (omega arith)));
-  }
+    pub begun-turn : (next : ℕ) → next ≡ min (s .next) o → Begun t (i + 1) (over s (set (s .release) i o) (set (s .need) i done) (set (s .executed) i done) next)
+    begun-turn next e = record {
+      others = ap (λ (x : State). over x (set (s .release) i o) (set (s .need) i done) (set (s .executed) i done) next) (b .others);
+      release = length-set (s .release) i o ∙ b .release;
+      need = length-set (s .need) i done ∙ b .need;
+      executed = length-set (s .executed) i done ∙ b .executed;
+      tasks =
+          below-more (λ k. Filled (getD (t .rows) k noRow) k (set (s .release) i o) (set (s .need) i done) (set (s .executed) i done)) i
+          filled-still filled-here;
+      rest = λ k h. getD-set-other (s .release) i k o never (λ q. omega arith) ∙ b .rest k (omega arith);
+      next = rw e (least-put (t .count) (s .release) (s .next) i (omega (arith, b .release)) (b .next) o below (b .rest i (omega arith)));
+    }
 
 -- ALL ARE FILLED IN
 

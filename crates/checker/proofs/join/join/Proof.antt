@@ -28,19 +28,20 @@ add-due c = search needs
 key-requires : tie.Need-key-requires
 key-requires c κs = search needs
 
-mul-key : tie.Need-mul-key
-mul-key c =
-    let start = c .before .before .before .args in
-    omega (arith, c .key .ensures, key-top (start .policy) (start .r) (start .time + start .r .deadline) 281479271677952 (omega arith) (omega arith) (omega arith) (omega arith))
+tagged-requires : tie.Need-tagged-requires
+tagged-requires c κs =
+    let start = c .before .before .before in
+    let top = key-top (start .args .policy) (start .args .r) (start .args .time + start .args .r .deadline) 281479271677952 (omega arith) (omega arith) (omega arith) (omega arith) in
+    (start .pre .0, omega (arith, c .key .ensures, top))
 
-add-key : tie.Need-add-key
-add-key c = omega (arith, mul-key c)
+cast-tagged : tie.Need-cast-tagged
+cast-tagged c = search needs
 
-cast-t10 : tie.Need-cast-t10
-cast-t10 c = search needs
+add-tagged : tie.Need-add-tagged
+add-tagged c = search needs
 
-add-t12 : tie.Need-add-t12
-add-t12 c = search needs
+tagged-requires-2 : tie.Need-tagged-requires-2
+tagged-requires-2 c κs = search needs
 
 open-requires : tie.Need-open-requires
 open-requires c κs = search needs
@@ -51,8 +52,10 @@ open-requires-2 c κs = search needs
 returns : tie.Need-returns
 returns c =
     let due = c .before in
-    let key = due .before .before in
-    simp (key .before .before .lesser .ensures, key .key .ensures, due .«open» .ensures, c .open2 .ensures)
+    let release = due .before in
+    let key = release .before .before in
+    let found = key .before in
+    simp (found .before .before .lesser .ensures, found .key .ensures, key .tagged .ensures, release .tagged2 .ensures, due .«open» .ensures, c .open2 .ensures)
 
 pub join-spec : {M : Type 1} → statement M
 join-spec =
@@ -62,10 +65,10 @@ join-spec =
     cast-due
     add-due
     key-requires
-    mul-key
-    add-key
-    cast-t10
-    add-t12
+    tagged-requires
+    cast-tagged
+    add-tagged
+    tagged-requires-2
     open-requires
     open-requires-2
     returns)

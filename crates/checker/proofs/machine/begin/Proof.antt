@@ -23,8 +23,11 @@ mul-r c = search needs
 element-copy-out-r : tie.Need-element-copy-out-r Inv-loop μ-loop
 element-copy-out-r c = search needs
 
-cast-o : tie.Need-cast-o Inv-loop μ-loop
-cast-o c = search needs
+cast-tagged : tie.Need-cast-tagged Inv-loop μ-loop
+cast-tagged c = search needs
+
+tagged-requires : tie.Need-tagged-requires Inv-loop μ-loop
+tagged-requires c κs = search needs
 
 mul-s : tie.Need-mul-s Inv-loop μ-loop
 mul-s c = search needs
@@ -55,9 +58,9 @@ loop-less c = search needs
 
 loop-again : tie.Need-loop-again Inv-loop μ-loop
 loop-again c =
-    let at = c .before .before .before .before .loop in
-    let t = c .before .before .before .before .before .args .t1 in
-    (search needs, at .inv .1, begun-turn t (at .i) (omega arith) (at .inv .1) (at .s) (at .inv .2) _ (c .sooner .ensures))
+    let place = c .before .before .before .before .before in
+    let at = place .loop in
+    (search needs, at .inv .1, begun-turn (place .before .args .t1) (at .i) (omega arith) (at .inv .1) (at .s) (at .inv .2) _ (c .before .tagged .ensures) _ (c .sooner .ensures))
 
 returns : tie.Need-returns Inv-loop μ-loop
 returns c =
@@ -75,7 +78,8 @@ begin-spec =
     loop-holds
     mul-r
     element-copy-out-r
-    cast-o
+    cast-tagged
+    tagged-requires
     mul-s
     element-write-s
     mul-e
