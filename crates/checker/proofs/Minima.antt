@@ -29,14 +29,6 @@ least-more n l m h = le-case m (getD l n never)
     wider (inl e) = inl e
     wider (inr k) = inr (k .0, omega (arith, k .1), k .2)
 
--- the same numbers
-pub least-as : (n : ℕ) (l k : List ℕ) (m : ℕ) → ((i : ℕ) → i < n → getD k i never ≡ getD l i never) → Least n l m → Least n k m
-least-as n l k m same h = record { low = λ i b. omega (arith, same i b, h .low i b); top = h .top; hit = go (h .hit) }
-  where
-    go : (m ≡ never) ⊎ ((i : ℕ) × (i < n) × (getD l i never ≡ m)) → (m ≡ never) ⊎ ((i : ℕ) × (i < n) × (getD k i never ≡ m))
-    go (inl e) = inl e
-    go (inr x) = inr (x .0, x .1, same (x .0) (x .1) ∙ x .2)
-
 -- the places from n on are empty
 pub least-part : (n k : ℕ) (l : List ℕ) (m : ℕ) → n ≤ k → ((i : ℕ) → n ≤ i → getD l i never ≡ never) → Least k l m → Least n l m
 least-part n k l m e rest h = record { low = λ i b. h .low i (omega arith); top = h .top; hit = go (h .hit) }

@@ -1,22 +1,19 @@
--- The loop over events: `Going` holds at its head, and `Passing` in the pass over the rows. Each way through a turn is a law of `Going`.
+-- The loop over events: `Going` holds at its head, and `Joining` while jobs join. Each way through a turn is a law of `Going`.
 use mathlib.Core.Path.{_≡_, refl, sym, ap, _∙_}
 use mathlib.Core.Bool.{Bool, true, false, cond}
-use Prim.Native.Nat.{ℕ, _+_, _-_, _*_, _%_, _≤_, _<_, min, max}
+use Prim.Native.Nat.{ℕ, _+_, _-_, _*_, _/_, _%_, _≤_, _<_, min, max}
 use native.Mathlib.Omega.{arith}
-use native.Mathlib.Numerals.{add-one}
 use borrow.Author.Needs.{needs}
 use borrow.Author.Tests.{eq-eqb, ne-eqb}
 use lib.Dec.{eqb}
 use lib.ListN.{getD, length, length-set}
 use Rattle.rules.specs.Table.{noRow}
-use Rattle.basics.specs.Cases.{eq-case}
 use Rattle.basics.specs.Lists.{any-default}
 use Rattle.slots.specs.Jobs.{never, workedOf}
-use Rattle.checker.specs.Turns.{topOf}
 use Rattle.checker.proofs.SoundTables.{count-top, hyper-some, row-in}
-use Rattle.checker.proofs.Pass.{Passing, passing-by, passing-joins, released-later, withNext, Onward, onward-start, onward-by, onward-joins, passes, ready}
+use Rattle.checker.proofs.Pass.{Joining, row-below, joining-turn, joining-less, ready}
 use Rattle.checker.proofs.Who.{who-first}
-use Rattle.checker.proofs.Going.{Going, going-start, ran-missed, ran-repeats, going-marked, ran-through, passing-now, stop-after, going-idle, going-goes, full-after, going-ends}
+use Rattle.checker.proofs.Going.{Going, going-start, ran-missed, ran-repeats, going-marked, ran-through, joining-now, stop-after, going-idle, going-goes, full-after, going-ends}
 use Rattle.checker.proofs.machine.run.Statement.{statement}
 use Rattle.checker.proofs.machine.run.Tie as tie
 
@@ -32,20 +29,10 @@ measure-on end u v mark h k = omega (arith, bit (eqb mark v))
 measure-marks : (end u mark h : ℕ) → mark ≡ u → 0 < h → 2 * (end - u) + cond (eqb (u + h) u) 1 0 < 2 * (end - u) + cond (eqb mark u) 1 0
 measure-marks end u mark h e some = rw (eq-eqb mark u e, ne-eqb (u + h) u (λ z. omega arith)) (omega arith)
 
+measure-joins : (u next n : ℕ) → next / 16 ≡ u → next < n → (u + 1) * 16 - n < (u + 1) * 16 - next
+measure-joins u next n e h = omega arith
+
 -- PLACES
-
-top-low : (next u rows top : ℕ) → top ≡ topOf next u rows → rows ≤ 16 → top ≤ 16
-top-low next u rows top e h = eq-case next u
-    (λ q. let z = rw (eq-eqb next u q) at e in omega arith)
-    (λ q. let z = rw (ne-eqb next u q) at e in omega arith)
-
-in-rows : (next u rows top i : ℕ) → top ≡ topOf next u rows → i < top → i < rows
-in-rows next u rows top i e h = eq-case next u
-    (λ q. let z = rw (eq-eqb next u q) at e in omega arith)
-    (λ q. let z = rw (ne-eqb next u q) at e in absurd (omega arith))
-
-in-array : {i rows : ℕ} → i < rows → rows ≤ 16 → i < 16
-in-array h k = omega arith
 
 long-enough : {n i : ℕ} → n ≡ 16 → i < 16 → i < n
 long-enough e h = omega arith
@@ -60,11 +47,10 @@ at-most-end : {u end : ℕ} → u ≤ end → end ≤ 281474976710656 → u ≤ 
 at-most-end h k = omega arith
 
 abbrev Inv-loop2 : tie.InvT-loop2
-Inv-loop2 policy first end requests loadings slots t rows blocks hyper s₀ was mark time top next₀ i₀ s next i =
-    (i ≤ top) × (top ≤ 16) × Passing policy t requests loadings time s₀ i s × Onward time s₀ i s next
+Inv-loop2 policy first end requests loadings slots t rows blocks hyper s₀ was mark time s = Joining policy t requests loadings time s₀ s
 
 abbrev μ-loop2 : tie.MeasureT-loop2
-μ-loop2 policy first end requests loadings slots t rows blocks hyper s₀ was mark time top next₀ i₀ s next i = top - i
+μ-loop2 policy first end requests loadings slots t rows blocks hyper s₀ was mark time s = (time + 1) * 16 - s .next
 
 abbrev Inv-loop : tie.InvT-loop
 Inv-loop policy first end requests loadings slots₀ t rows blocks hyper s₀ was₀ mark₀ time₀ slots s was mark time =
@@ -154,29 +140,13 @@ returns-3 c =
     let at = head .loop in
     (ran-through (a .policy) (a .t1) (start .pre .0) (a .requests .now) (a .loadings .now) (a .first) (start .pre .1 .0) (a .end) (start .pre .1 .1) _ (at .slots) (at .s) (at .was) (at .mark) (at .time) (at .inv .3) (c .before .before .if1 .left) (c .before .if2 .left) (c .if4 .taken), at .inv .3 .painted)
 
-top-requires : tie.Need-top-requires Inv-loop2 μ-loop2 Inv-loop μ-loop
-top-requires c κs = search needs
-
-from-requires : tie.Need-from-requires Inv-loop2 μ-loop2 Inv-loop μ-loop
-from-requires c κs = search needs
-
 loop2-holds : tie.Need-loop2-holds Inv-loop2 μ-loop2 Inv-loop μ-loop
 loop2-holds c =
-    let head = c .before .before .before .before .before in
+    let head = c .before .before .before in
     let start = head .before .before .before .before .before .before .before in
     let a = start .args in
-    let at = head .loop in (
-      search needs,
-      top-low (at .s .next) (at .time) (a .t1 .count) _ (c .before .top .ensures) (at .inv .1),
-      passing-now (a .policy) (a .t1) (start .pre .0) (a .requests .now) (a .loadings .now) (a .first) (start .pre .1 .0) (a .end) (start .pre .1 .1) _ (at .slots) (at .s) (at .was) (at .mark) (at .time) (at .inv .3) (c .before .before .before .before .if1 .left) (c .before .before .before .if2 .left),
-      onward-start (at .time) (at .s) _ (c .from .ensures),
-    )
-
-mul-release : tie.Need-mul-release Inv-loop2 μ-loop2 Inv-loop μ-loop
-mul-release c = search needs
-
-element-copy-out-release : tie.Need-element-copy-out-release Inv-loop2 μ-loop2 Inv-loop μ-loop
-element-copy-out-release c = search needs
+    let at = head .loop in
+    joining-now (a .policy) (a .t1) (start .pre .0) (a .requests .now) (a .loadings .now) (a .first) (start .pre .1 .0) (a .end) (start .pre .1 .1) _ (at .slots) (at .s) (at .was) (at .mark) (at .time) (at .inv .3) (c .before .before .if1 .left) (c .before .if2 .left)
 
 mul-r : tie.Need-mul-r Inv-loop2 μ-loop2 Inv-loop μ-loop
 mul-r c = search needs
@@ -188,7 +158,10 @@ entry-requires : tie.Need-entry-requires Inv-loop2 μ-loop2 Inv-loop μ-loop
 entry-requires c κs = search needs
 
 join-requires : tie.Need-join-requires Inv-loop2 μ-loop2 Inv-loop μ-loop
-join-requires c κs = search needs
+join-requires c κs =
+    let at = c .before .before .before .before .before .before .before .loop in
+    let start = c .before .before .before .before .before .before .before .before .before .before .before .before .before .before in
+    (row-low _, at-most-end (at .inv .0) (start .pre .1 .1))
 
 mul-n : tie.Need-mul-n Inv-loop2 μ-loop2 Inv-loop μ-loop
 mul-n c = search needs
@@ -229,86 +202,60 @@ sooner-requires-2 c κs = search needs
 used-requires : tie.Need-used-requires Inv-loop2 μ-loop2 Inv-loop μ-loop
 used-requires c κs = search needs
 
-sooner-requires-3 : tie.Need-sooner-requires-3 Inv-loop2 μ-loop2 Inv-loop μ-loop
-sooner-requires-3 c κs = search needs
-
-add-i : tie.Need-add-i Inv-loop2 μ-loop2 Inv-loop μ-loop
-add-i c = search needs
+least-requires : tie.Need-least-requires Inv-loop2 μ-loop2 Inv-loop μ-loop
+least-requires c κs =
+    let passing = c .before .before .before .before .before .before .before .before .before .before in
+    let blocks = passing .before .before .before .before .before .before .before in
+    (blocks .blocks2 .ensures .0, simp length-set (passing .loop2 .inv .passing .full .release))
 
 loop2-less : tie.Need-loop2-less Inv-loop2 μ-loop2 Inv-loop μ-loop
-loop2-less c = search needs
-
-loop2-again : tie.Need-loop2-again Inv-loop2 μ-loop2 Inv-loop μ-loop
-loop2-again c =
-    let job = c .before .before .before .before .before in
+loop2-less c =
+    let job = c .before .before .before .before .before .before .before in
     let asked = job .before in
-    let joins = asked .before .before in
-    let inside = joins .before .before in
+    let inside = asked .before .before in
     let passing = inside .before in
-    let found = passing .before .before in
-    let head = found .before .before .before .before in
+    let head = passing .before .before .before .before in
     let start = head .before .before .before .before .before .before .before in
     let a = start .args in
     let at = head .loop in
+    let blocks = head .before .before .before in
     let at2 = passing .loop2 in
-    let top = found .top .ensures in
-    let below = in-rows (at .s .next) (at .time) (a .t1 .count) _ (at2 .i) top (inside .loop2-test .taken) in
-    let now = passes (at .s .next) (at .time) (a .t1 .count) (at2 .i) (rw top at (inside .loop2-test .taken)) in
-    let long = long-enough (at2 .inv .2 .full .release) (in-array below (at .inv .1)) in
-    rw (add-one (at2 .i), c .sooner3 .ensures, c .before .used .ensures, c .before .before .sooner2 .ensures, c .before .before .before .sooner .ensures) (
-      search needs,
-      at2 .inv .1,
-      passing-joins (a .policy) (a .t1) (start .pre .0) (a .requests .now) (a .loadings .now) (at .time) (at .s) (at .inv .3 .at) (at2 .i) below (at2 .s) (at2 .inv .2) (any-default (at2 .s .release) (at2 .i) never 0 long ∙ joins .if5 .taken) _
-          (rw (asked .entry .ensures, ← row-in (a .t1) (start .pre .0) (at2 .i) below) at (job .join .ensures)),
-      onward-joins (at .time) (at .s) (at2 .i) (at2 .s) (at2 .next) (at2 .inv .3) now _ _ long,
-    )
+    let now = inside .loop2-test .taken in
+    let below = row-below (a .policy) (a .t1) (start .pre .0) (a .requests .now) (a .loadings .now) (at .time) (at-most-end (at .inv .0) (start .pre .1 .1)) (at .s) (at .inv .3 .at) (at2 .s) (at2 .inv) now in
+    let new = rw (asked .entry .ensures, ← row-in (a .t1) (start .pre .0) (at2 .s .next % 16) below) at (job .join .ensures) in
+    measure-joins (at .time) (at2 .s .next) (c .least .result) now (joining-less (a .policy) (a .t1) (start .pre .0) (a .requests .now) (a .loadings .now) (at .time) (at-most-end (at .inv .0) (start .pre .1 .1)) (at .s) (at .inv .3 .at) (at2 .s) (at2 .inv) now _ new (blocks .blocks2 .result) (blocks .blocks2 .ensures .1) _ (c .least .ensures))
+
+loop2-again : tie.Need-loop2-again Inv-loop2 μ-loop2 Inv-loop μ-loop
+loop2-again c =
+    let job = c .before .before .before .before .before .before .before in
+    let asked = job .before in
+    let inside = asked .before .before in
+    let passing = inside .before in
+    let head = passing .before .before .before .before in
+    let start = head .before .before .before .before .before .before .before in
+    let a = start .args in
+    let at = head .loop in
+    let blocks = head .before .before .before in
+    let at2 = passing .loop2 in
+    let now = inside .loop2-test .taken in
+    let below = row-below (a .policy) (a .t1) (start .pre .0) (a .requests .now) (a .loadings .now) (at .time) (at-most-end (at .inv .0) (start .pre .1 .1)) (at .s) (at .inv .3 .at) (at2 .s) (at2 .inv) now in
+    let new = rw (asked .entry .ensures, ← row-in (a .t1) (start .pre .0) (at2 .s .next % 16) below) at (job .join .ensures) in
+    rw (c .before .before .before .used .ensures, c .before .before .before .before .sooner2 .ensures, c .before .before .before .before .before .sooner .ensures) (joining-turn (a .policy) (a .t1) (start .pre .0) (a .requests .now) (a .loadings .now) (at .time) (at-most-end (at .inv .0) (start .pre .1 .1)) (at .s) (at .inv .3 .at) (at2 .s) (at2 .inv) now _ new (blocks .blocks2 .result) (blocks .blocks2 .ensures .1) _ (c .least .ensures))
+
+sooner-requires-3 : tie.Need-sooner-requires-3 Inv-loop2 μ-loop2 Inv-loop μ-loop
+sooner-requires-3 c κs = search needs
 
 sooner-requires-4 : tie.Need-sooner-requires-4 Inv-loop2 μ-loop2 Inv-loop μ-loop
 sooner-requires-4 c κs = search needs
 
-add-i-2 : tie.Need-add-i-2 Inv-loop2 μ-loop2 Inv-loop μ-loop
-add-i-2 c = search needs
-
-loop2-less-2 : tie.Need-loop2-less-2 Inv-loop2 μ-loop2 Inv-loop μ-loop
-loop2-less-2 c = search needs
-
-loop2-again-2 : tie.Need-loop2-again-2 Inv-loop2 μ-loop2 Inv-loop μ-loop
-loop2-again-2 c =
-    let other = c .before in
-    let inside = other .before .before in
-    let passing = inside .before in
-    let found = passing .before .before in
-    let head = found .before .before .before .before in
-    let start = head .before .before .before .before .before .before .before in
-    let a = start .args in
-    let at = head .loop in
-    let at2 = passing .loop2 in
-    let top = found .top .ensures in
-    let below = in-rows (at .s .next) (at .time) (a .t1 .count) _ (at2 .i) top (inside .loop2-test .taken) in
-    let now = passes (at .s .next) (at .time) (a .t1 .count) (at2 .i) (rw top at (inside .loop2-test .taken)) in
-    let long = long-enough (at2 .inv .2 .full .release) (in-array below (at .inv .1)) in
-    let read = any-default (at2 .s .release) (at2 .i) 0 never long in
-    rw (add-one (at2 .i), c .sooner4 .ensures, read) (
-      search needs,
-      at2 .inv .1,
-      passing-by (a .policy) (a .t1) (start .pre .0) (a .requests .now) (a .loadings .now) (at .time) (at .s) (at .inv .3 .at) (at2 .i) below (at2 .s) (at2 .inv .2) (released-later (a .policy) (a .t1) (start .pre .0) (a .requests .now) (a .loadings .now) (at .time) (at .s) (at .inv .3 .at) (at2 .i) below (at2 .s) (at2 .inv .2) (λ e. other .if5 .left (read ∙ e))),
-      onward-by (at .time) (at .s) (at2 .i) (at2 .s) (at2 .next) (at2 .inv .3) now,
-    )
-
 sooner-requires-5 : tie.Need-sooner-requires-5 Inv-loop2 μ-loop2 Inv-loop μ-loop
 sooner-requires-5 c κs = search needs
-
-sooner-requires-6 : tie.Need-sooner-requires-6 Inv-loop2 μ-loop2 Inv-loop μ-loop
-sooner-requires-6 c κs = search needs
-
-sooner-requires-7 : tie.Need-sooner-requires-7 Inv-loop2 μ-loop2 Inv-loop μ-loop
-sooner-requires-7 c κs = search needs
 
 sub-stretch : tie.Need-sub-stretch Inv-loop2 μ-loop2 Inv-loop μ-loop
 sub-stretch c =
     let until = c .before .before in
     let passed = until .before .before .before in
-    let goes-on = passed .before .before .before .before in
+    let goes-on = passed .before .before in
     let head = goes-on .before .before .before in
     let start = head .before .before .before .before .before .before .before in
     let a = start .args in
@@ -317,24 +264,23 @@ sub-stretch c =
     let on-time = goes-on .before .before .if1 .left in
     let later = goes-on .before .if2 .left in
     let more = goes-on .if4 .left in
-    let top = passed .before .before .before .top .ensures in
-    let r = ready (a .policy) (a .t1) (start .pre .0) (a .requests .now) (a .loadings .now) (at .time) (at .s) (at .inv .3 .at) (at2 .i) (at2 .s) (at2 .next) (at2 .inv .2) (at2 .inv .3) (rw top at (at2 .inv .0)) (rw top at (passed .loop2-test .left)) in
-    let stop = until .sooner7 .ensures ∙ ap (λ x. min x (until .before .sooner6 .result)) (until .before .before .sooner5 .ensures) ∙ ap (min (min (a .end) (at .mark))) (until .before .sooner6 .ensures) in
-    less-most (stop-after (a .policy) (a .t1) (start .pre .0) (a .requests .now) (a .loadings .now) (a .first) (start .pre .1 .0) (a .end) (start .pre .1 .1) _ (at .slots) (at .s) (at .was) (at .mark) (at .time) (at .inv .3) on-time later more (withNext (at2 .s) (at2 .next)) r _ stop)
+    let r = ready (a .policy) (a .t1) (start .pre .0) (a .requests .now) (a .loadings .now) (at .time) (at-most-end (at .inv .0) (start .pre .1 .1)) (at .s) (at .inv .3 .at) (at2 .s) (at2 .inv) (passed .loop2-test .left) in
+    let stop = until .sooner5 .ensures ∙ ap (λ x. min x (until .before .sooner4 .result)) (until .before .before .sooner3 .ensures) ∙ ap (min (min (a .end) (at .mark))) (until .before .sooner4 .ensures) in
+    less-most (stop-after (a .policy) (a .t1) (start .pre .0) (a .requests .now) (a .loadings .now) (a .first) (start .pre .1 .0) (a .end) (start .pre .1 .1) _ (at .slots) (at .s) (at .was) (at .mark) (at .time) (at .inv .3) on-time later more (at2 .s) r _ stop)
 
 stretch-requires : tie.Need-stretch-requires Inv-loop2 μ-loop2 Inv-loop μ-loop
 stretch-requires c κs =
-    let head = c .before .before .before .before .before .before .before .before .before .before .before .before in
+    let head = c .before .before .before .before .before .before .before .before .before .before in
     let start = head .before .before .before .before .before .before .before in
     let a = start .args in
     let at = head .loop in
-    omega (arith, at .inv .0, start .pre .1 .1, c .before .before .sooner7 .ensures, c .before .before .before .before .sooner5 .ensures)
+    omega (arith, at .inv .0, start .pre .1 .1, c .before .before .sooner5 .ensures, c .before .before .before .before .sooner3 .ensures)
 
 loop-less-2 : tie.Need-loop-less-2 Inv-loop2 μ-loop2 Inv-loop μ-loop
 loop-less-2 c =
     let until = c .before .before .before .before .before in
     let passed = until .before .before .before in
-    let goes-on = passed .before .before .before .before in
+    let goes-on = passed .before .before in
     let head = goes-on .before .before .before in
     let start = head .before .before .before .before .before .before .before in
     let a = start .args in
@@ -343,16 +289,15 @@ loop-less-2 c =
     let on-time = goes-on .before .before .if1 .left in
     let later = goes-on .before .if2 .left in
     let more = goes-on .if4 .left in
-    let top = passed .before .before .before .top .ensures in
-    let r = ready (a .policy) (a .t1) (start .pre .0) (a .requests .now) (a .loadings .now) (at .time) (at .s) (at .inv .3 .at) (at2 .i) (at2 .s) (at2 .next) (at2 .inv .2) (at2 .inv .3) (rw top at (at2 .inv .0)) (rw top at (passed .loop2-test .left)) in
-    let stop = until .sooner7 .ensures ∙ ap (λ x. min x (until .before .sooner6 .result)) (until .before .before .sooner5 .ensures) ∙ ap (min (min (a .end) (at .mark))) (until .before .sooner6 .ensures) in
-    measure-on (a .end) (at .time) (until .sooner7 .result) (at .mark) (stop-after (a .policy) (a .t1) (start .pre .0) (a .requests .now) (a .loadings .now) (a .first) (start .pre .1 .0) (a .end) (start .pre .1 .1) _ (at .slots) (at .s) (at .was) (at .mark) (at .time) (at .inv .3) on-time later more (withNext (at2 .s) (at2 .next)) r _ stop) (going-idle (a .policy) (a .t1) (start .pre .0) (a .requests .now) (a .loadings .now) (a .first) (start .pre .1 .0) (a .end) (start .pre .1 .1) _ (at .slots) (at .s) (at .was) (at .mark) (at .time) (at .inv .3) on-time later more (withNext (at2 .s) (at2 .next)) r _ stop (c .before .before .before .before .if6 .taken) _ (c .before .before .stretch .ensures) .most)
+    let r = ready (a .policy) (a .t1) (start .pre .0) (a .requests .now) (a .loadings .now) (at .time) (at-most-end (at .inv .0) (start .pre .1 .1)) (at .s) (at .inv .3 .at) (at2 .s) (at2 .inv) (passed .loop2-test .left) in
+    let stop = until .sooner5 .ensures ∙ ap (λ x. min x (until .before .sooner4 .result)) (until .before .before .sooner3 .ensures) ∙ ap (min (min (a .end) (at .mark))) (until .before .sooner4 .ensures) in
+    measure-on (a .end) (at .time) (until .sooner5 .result) (at .mark) (stop-after (a .policy) (a .t1) (start .pre .0) (a .requests .now) (a .loadings .now) (a .first) (start .pre .1 .0) (a .end) (start .pre .1 .1) _ (at .slots) (at .s) (at .was) (at .mark) (at .time) (at .inv .3) on-time later more (at2 .s) r _ stop) (going-idle (a .policy) (a .t1) (start .pre .0) (a .requests .now) (a .loadings .now) (a .first) (start .pre .1 .0) (a .end) (start .pre .1 .1) _ (at .slots) (at .s) (at .was) (at .mark) (at .time) (at .inv .3) on-time later more (at2 .s) r _ stop (c .before .before .before .before .if5 .taken) _ (c .before .before .stretch .ensures) .most)
 
 loop-again-2 : tie.Need-loop-again-2 Inv-loop2 μ-loop2 Inv-loop μ-loop
 loop-again-2 c =
     let until = c .before .before .before .before .before in
     let passed = until .before .before .before in
-    let goes-on = passed .before .before .before .before in
+    let goes-on = passed .before .before in
     let head = goes-on .before .before .before in
     let start = head .before .before .before .before .before .before .before in
     let a = start .args in
@@ -361,10 +306,9 @@ loop-again-2 c =
     let on-time = goes-on .before .before .if1 .left in
     let later = goes-on .before .if2 .left in
     let more = goes-on .if4 .left in
-    let top = passed .before .before .before .top .ensures in
-    let r = ready (a .policy) (a .t1) (start .pre .0) (a .requests .now) (a .loadings .now) (at .time) (at .s) (at .inv .3 .at) (at2 .i) (at2 .s) (at2 .next) (at2 .inv .2) (at2 .inv .3) (rw top at (at2 .inv .0)) (rw top at (passed .loop2-test .left)) in
-    let stop = until .sooner7 .ensures ∙ ap (λ x. min x (until .before .sooner6 .result)) (until .before .before .sooner5 .ensures) ∙ ap (min (min (a .end) (at .mark))) (until .before .sooner6 .ensures) in
-    let g = going-idle (a .policy) (a .t1) (start .pre .0) (a .requests .now) (a .loadings .now) (a .first) (start .pre .1 .0) (a .end) (start .pre .1 .1) _ (at .slots) (at .s) (at .was) (at .mark) (at .time) (at .inv .3) on-time later more (withNext (at2 .s) (at2 .next)) r _ stop (c .before .before .before .before .if6 .taken) _ (c .before .before .stretch .ensures) in
+    let r = ready (a .policy) (a .t1) (start .pre .0) (a .requests .now) (a .loadings .now) (at .time) (at-most-end (at .inv .0) (start .pre .1 .1)) (at .s) (at .inv .3 .at) (at2 .s) (at2 .inv) (passed .loop2-test .left) in
+    let stop = until .sooner5 .ensures ∙ ap (λ x. min x (until .before .sooner4 .result)) (until .before .before .sooner3 .ensures) ∙ ap (min (min (a .end) (at .mark))) (until .before .sooner4 .ensures) in
+    let g = going-idle (a .policy) (a .t1) (start .pre .0) (a .requests .now) (a .loadings .now) (a .first) (start .pre .1 .0) (a .end) (start .pre .1 .1) _ (at .slots) (at .s) (at .was) (at .mark) (at .time) (at .inv .3) on-time later more (at2 .s) r _ stop (c .before .before .before .before .if5 .taken) _ (c .before .before .stretch .ensures) in
     (g .most, at .inv .1, g .painted .size, g)
 
 mul-r-2 : tie.Need-mul-r-2 Inv-loop2 μ-loop2 Inv-loop μ-loop
@@ -399,8 +343,8 @@ cast-continues c = search needs
 
 add-continues-2 : tie.Need-add-continues-2 Inv-loop2 μ-loop2 Inv-loop μ-loop
 add-continues-2 c =
-    let at = c .before .before .before .before .before .before .before .before .before .before .before .before .before .before .before .before .before .loop in
-    let start = c .before .before .before .before .before .before .before .before .before .before .before .before .before .before .before .before .before .before .before .before .before .before .before .before in
+    let at = c .before .before .before .before .before .before .before .before .before .before .before .before .before .before .before .loop in
+    let start = c .before .before .before .before .before .before .before .before .before .before .before .before .before .before .before .before .before .before .before .before .before .before in
     omega (arith, at .inv .0, start .pre .1 .1)
 
 continues-requires : tie.Need-continues-requires Inv-loop2 μ-loop2 Inv-loop μ-loop
@@ -411,12 +355,12 @@ load-requires c κs = search needs
 
 finish-requires : tie.Need-finish-requires Inv-loop2 μ-loop2 Inv-loop μ-loop
 finish-requires c κs =
-    let at = c .before .before .before .before .before .before .before .before .before .before .before .before .before .before .before .before .before .before .before .before .loop in
-    let start = c .before .before .before .before .before .before .before .before .before .before .before .before .before .before .before .before .before .before .before .before .before .before .before .before .before .before .before in
+    let at = c .before .before .before .before .before .before .before .before .before .before .before .before .before .before .before .before .before .before .loop in
+    let start = c .before .before .before .before .before .before .before .before .before .before .before .before .before .before .before .before .before .before .before .before .before .before .before .before .before in
     omega (arith, at .inv .0, start .pre .1 .1)
 
-sooner-requires-8 : tie.Need-sooner-requires-8 Inv-loop2 μ-loop2 Inv-loop μ-loop
-sooner-requires-8 c κs = search needs
+sooner-requires-6 : tie.Need-sooner-requires-6 Inv-loop2 μ-loop2 Inv-loop μ-loop
+sooner-requires-6 c κs = search needs
 
 span-requires : tie.Need-span-requires Inv-loop2 μ-loop2 Inv-loop μ-loop
 span-requires c κs = search needs
@@ -432,7 +376,7 @@ cast-stretch-2 c = search needs
 
 stretch-requires-2 : tie.Need-stretch-requires-2 Inv-loop2 μ-loop2 Inv-loop μ-loop
 stretch-requires-2 c κs =
-    let head = c .before .before .before .before .before .before .before .before .before .before .before .before .before .before .before .before .before .before .before .before .before .before .before .before .before in
+    let head = c .before .before .before .before .before .before .before .before .before .before .before .before .before .before .before .before .before .before .before .before .before .before .before in
     let start = head .before .before .before .before .before .before .before in
     let a = start .args in
     let at = head .loop in
@@ -465,7 +409,7 @@ loop-less-3 c =
     let chosen = loaded .before .before .before .before .before .before .before .before in
     let until = chosen .before in
     let passed = until .before .before .before in
-    let goes-on = passed .before .before .before .before in
+    let goes-on = passed .before .before in
     let head = goes-on .before .before .before in
     let start = head .before .before .before .before .before .before .before in
     let a = start .args in
@@ -474,17 +418,16 @@ loop-less-3 c =
     let on-time = goes-on .before .before .if1 .left in
     let later = goes-on .before .if2 .left in
     let more = goes-on .if4 .left in
-    let top = passed .before .before .before .top .ensures in
-    let r = ready (a .policy) (a .t1) (start .pre .0) (a .requests .now) (a .loadings .now) (at .time) (at .s) (at .inv .3 .at) (at2 .i) (at2 .s) (at2 .next) (at2 .inv .2) (at2 .inv .3) (rw top at (at2 .inv .0)) (rw top at (passed .loop2-test .left)) in
-    let stop = until .sooner7 .ensures ∙ ap (λ x. min x (until .before .sooner6 .result)) (until .before .before .sooner5 .ensures) ∙ ap (min (min (a .end) (at .mark))) (until .before .sooner6 .ensures) in
-    let some = chosen .if6 .left in
+    let r = ready (a .policy) (a .t1) (start .pre .0) (a .requests .now) (a .loadings .now) (at .time) (at-most-end (at .inv .0) (start .pre .1 .1)) (at .s) (at .inv .3 .at) (at2 .s) (at2 .inv) (passed .loop2-test .left) in
+    let stop = until .sooner5 .ensures ∙ ap (λ x. min x (until .before .sooner4 .result)) (until .before .before .sooner3 .ensures) ∙ ap (min (min (a .end) (at .mark))) (until .before .sooner4 .ensures) in
+    let some = chosen .if5 .left in
     let low = row-low (at2 .s .best) in
     let held = long-enough (r .passed .full .release) low in
-    let its = sym (row-in (a .t1) (start .pre .0) _ (who-first (a .policy) (a .t1) (start .pre .0) (a .requests .now) (a .loadings .now) (at .time) (at-most-end (at .inv .0) (start .pre .1 .1)) (at .s) (withNext (at2 .s) (at2 .next)) r some .0)) in
+    let its = sym (row-in (a .t1) (start .pre .0) _ (who-first (a .policy) (a .t1) (start .pre .0) (a .requests .now) (a .loadings .now) (at .time) (at-most-end (at .inv .0) (start .pre .1 .1)) (at .s) (at2 .s) r some .0)) in
     let again = rw (any-default _ _ 0 never held) at (loaded .before .continues .ensures) in
-    let span = counted .span .ensures ∙ ap (λ x. min (x - at .time) 4294967295) (counted .before .sooner8 .ensures) in
-    let g = going-goes (a .policy) (a .t1) (start .pre .0) (a .requests .now) (a .loadings .now) (a .first) (start .pre .1 .0) (a .end) (start .pre .1 .1) _ (at .slots) (at .s) (at .was) (at .mark) (at .time) (at .inv .3) on-time later more (withNext (at2 .s) (at2 .next)) r _ stop some _ its _ again _ (loaded .load .ensures) _ (counted .before .before .finish .ensures) _ span _ (painted .stretch2 .ensures) (short .if7 .taken) _ (c .before .worked .ensures ∙ ap (workedOf _ _) (c .before .before .minus .ensures)) _ (c .minus2 .ensures) in
-    measure-on (a .end) (at .time) (until .sooner7 .result) (at .mark) (stop-after (a .policy) (a .t1) (start .pre .0) (a .requests .now) (a .loadings .now) (a .first) (start .pre .1 .0) (a .end) (start .pre .1 .1) _ (at .slots) (at .s) (at .was) (at .mark) (at .time) (at .inv .3) on-time later more (withNext (at2 .s) (at2 .next)) r _ stop) (g .most)
+    let span = counted .span .ensures ∙ ap (λ x. min (x - at .time) 4294967295) (counted .before .sooner6 .ensures) in
+    let g = going-goes (a .policy) (a .t1) (start .pre .0) (a .requests .now) (a .loadings .now) (a .first) (start .pre .1 .0) (a .end) (start .pre .1 .1) _ (at .slots) (at .s) (at .was) (at .mark) (at .time) (at .inv .3) on-time later more (at2 .s) r _ stop some _ its _ again _ (loaded .load .ensures) _ (counted .before .before .finish .ensures) _ span _ (painted .stretch2 .ensures) (short .if6 .taken) _ (c .before .worked .ensures ∙ ap (workedOf _ _) (c .before .before .minus .ensures)) _ (c .minus2 .ensures) in
+    measure-on (a .end) (at .time) (until .sooner5 .result) (at .mark) (stop-after (a .policy) (a .t1) (start .pre .0) (a .requests .now) (a .loadings .now) (a .first) (start .pre .1 .0) (a .end) (start .pre .1 .1) _ (at .slots) (at .s) (at .was) (at .mark) (at .time) (at .inv .3) on-time later more (at2 .s) r _ stop) (g .most)
 
 loop-again-3 : tie.Need-loop-again-3 Inv-loop2 μ-loop2 Inv-loop μ-loop
 loop-again-3 c =
@@ -495,7 +438,7 @@ loop-again-3 c =
     let chosen = loaded .before .before .before .before .before .before .before .before in
     let until = chosen .before in
     let passed = until .before .before .before in
-    let goes-on = passed .before .before .before .before in
+    let goes-on = passed .before .before in
     let head = goes-on .before .before .before in
     let start = head .before .before .before .before .before .before .before in
     let a = start .args in
@@ -504,16 +447,15 @@ loop-again-3 c =
     let on-time = goes-on .before .before .if1 .left in
     let later = goes-on .before .if2 .left in
     let more = goes-on .if4 .left in
-    let top = passed .before .before .before .top .ensures in
-    let r = ready (a .policy) (a .t1) (start .pre .0) (a .requests .now) (a .loadings .now) (at .time) (at .s) (at .inv .3 .at) (at2 .i) (at2 .s) (at2 .next) (at2 .inv .2) (at2 .inv .3) (rw top at (at2 .inv .0)) (rw top at (passed .loop2-test .left)) in
-    let stop = until .sooner7 .ensures ∙ ap (λ x. min x (until .before .sooner6 .result)) (until .before .before .sooner5 .ensures) ∙ ap (min (min (a .end) (at .mark))) (until .before .sooner6 .ensures) in
-    let some = chosen .if6 .left in
+    let r = ready (a .policy) (a .t1) (start .pre .0) (a .requests .now) (a .loadings .now) (at .time) (at-most-end (at .inv .0) (start .pre .1 .1)) (at .s) (at .inv .3 .at) (at2 .s) (at2 .inv) (passed .loop2-test .left) in
+    let stop = until .sooner5 .ensures ∙ ap (λ x. min x (until .before .sooner4 .result)) (until .before .before .sooner3 .ensures) ∙ ap (min (min (a .end) (at .mark))) (until .before .sooner4 .ensures) in
+    let some = chosen .if5 .left in
     let low = row-low (at2 .s .best) in
     let held = long-enough (r .passed .full .release) low in
-    let its = sym (row-in (a .t1) (start .pre .0) _ (who-first (a .policy) (a .t1) (start .pre .0) (a .requests .now) (a .loadings .now) (at .time) (at-most-end (at .inv .0) (start .pre .1 .1)) (at .s) (withNext (at2 .s) (at2 .next)) r some .0)) in
+    let its = sym (row-in (a .t1) (start .pre .0) _ (who-first (a .policy) (a .t1) (start .pre .0) (a .requests .now) (a .loadings .now) (at .time) (at-most-end (at .inv .0) (start .pre .1 .1)) (at .s) (at2 .s) r some .0)) in
     let again = rw (any-default _ _ 0 never held) at (loaded .before .continues .ensures) in
-    let span = counted .span .ensures ∙ ap (λ x. min (x - at .time) 4294967295) (counted .before .sooner8 .ensures) in
-    let g = going-goes (a .policy) (a .t1) (start .pre .0) (a .requests .now) (a .loadings .now) (a .first) (start .pre .1 .0) (a .end) (start .pre .1 .1) _ (at .slots) (at .s) (at .was) (at .mark) (at .time) (at .inv .3) on-time later more (withNext (at2 .s) (at2 .next)) r _ stop some _ its _ again _ (loaded .load .ensures) _ (counted .before .before .finish .ensures) _ span _ (painted .stretch2 .ensures) (short .if7 .taken) _ (c .before .worked .ensures ∙ ap (workedOf _ _) (c .before .before .minus .ensures)) _ (c .minus2 .ensures) in
+    let span = counted .span .ensures ∙ ap (λ x. min (x - at .time) 4294967295) (counted .before .sooner6 .ensures) in
+    let g = going-goes (a .policy) (a .t1) (start .pre .0) (a .requests .now) (a .loadings .now) (a .first) (start .pre .1 .0) (a .end) (start .pre .1 .1) _ (at .slots) (at .s) (at .was) (at .mark) (at .time) (at .inv .3) on-time later more (at2 .s) r _ stop some _ its _ again _ (loaded .load .ensures) _ (counted .before .before .finish .ensures) _ span _ (painted .stretch2 .ensures) (short .if6 .taken) _ (c .before .worked .ensures ∙ ap (workedOf _ _) (c .before .before .minus .ensures)) _ (c .minus2 .ensures) in
     (g .most, at .inv .1, g .painted .size, g)
 
 mul-span : tie.Need-mul-span Inv-loop2 μ-loop2 Inv-loop μ-loop
@@ -570,14 +512,14 @@ element-write-s-6 c = search needs
 without-requires : tie.Need-without-requires Inv-loop2 μ-loop2 Inv-loop μ-loop
 without-requires c κs =
     let passing = c .before .before .before .before .before .before .before .before .before .before .before .before .before .before .before .before .before .before .before .before .before .before .before .before .before .before .before .before .before .before .before in
-    let blocks = passing .before .before .before .before .before .before .before .before .before in
-    (blocks .blocks2 .ensures .0, simp length-set (passing .loop2 .inv .2 .full .due))
+    let blocks = passing .before .before .before .before .before .before .before in
+    (blocks .blocks2 .ensures .0, simp length-set (passing .loop2 .inv .passing .full .due))
 
-least-requires : tie.Need-least-requires Inv-loop2 μ-loop2 Inv-loop μ-loop
-least-requires c κs =
+least-requires-2 : tie.Need-least-requires-2 Inv-loop2 μ-loop2 Inv-loop μ-loop
+least-requires-2 c κs =
     let passing = c .before .before .before .before .before .before .before .before .before .before .before .before .before .before .before .before .before .before .before .before .before .before .before .before .before .before .before .before .before .before .before .before .before .before in
-    let blocks = passing .before .before .before .before .before .before .before .before .before in
-    (blocks .blocks2 .ensures .0, simp length-set (passing .loop2 .inv .2 .full .key))
+    let blocks = passing .before .before .before .before .before .before .before in
+    (blocks .blocks2 .ensures .0, simp length-set (passing .loop2 .inv .passing .full .key))
 
 loop-less-4 : tie.Need-loop-less-4 Inv-loop2 μ-loop2 Inv-loop μ-loop
 loop-less-4 c =
@@ -591,7 +533,7 @@ loop-less-4 c =
     let chosen = loaded .before .before .before .before .before .before .before .before in
     let until = chosen .before in
     let passed = until .before .before .before in
-    let goes-on = passed .before .before .before .before in
+    let goes-on = passed .before .before in
     let head = goes-on .before .before .before in
     let start = head .before .before .before .before .before .before .before in
     let a = start .args in
@@ -600,19 +542,18 @@ loop-less-4 c =
     let on-time = goes-on .before .before .if1 .left in
     let later = goes-on .before .if2 .left in
     let more = goes-on .if4 .left in
-    let top = passed .before .before .before .top .ensures in
-    let r = ready (a .policy) (a .t1) (start .pre .0) (a .requests .now) (a .loadings .now) (at .time) (at .s) (at .inv .3 .at) (at2 .i) (at2 .s) (at2 .next) (at2 .inv .2) (at2 .inv .3) (rw top at (at2 .inv .0)) (rw top at (passed .loop2-test .left)) in
-    let stop = until .sooner7 .ensures ∙ ap (λ x. min x (until .before .sooner6 .result)) (until .before .before .sooner5 .ensures) ∙ ap (min (min (a .end) (at .mark))) (until .before .sooner6 .ensures) in
-    let some = chosen .if6 .left in
+    let r = ready (a .policy) (a .t1) (start .pre .0) (a .requests .now) (a .loadings .now) (at .time) (at-most-end (at .inv .0) (start .pre .1 .1)) (at .s) (at .inv .3 .at) (at2 .s) (at2 .inv) (passed .loop2-test .left) in
+    let stop = until .sooner5 .ensures ∙ ap (λ x. min x (until .before .sooner4 .result)) (until .before .before .sooner3 .ensures) ∙ ap (min (min (a .end) (at .mark))) (until .before .sooner4 .ensures) in
+    let some = chosen .if5 .left in
     let low = row-low (at2 .s .best) in
     let held = long-enough (r .passed .full .release) low in
-    let its = sym (row-in (a .t1) (start .pre .0) _ (who-first (a .policy) (a .t1) (start .pre .0) (a .requests .now) (a .loadings .now) (at .time) (at-most-end (at .inv .0) (start .pre .1 .1)) (at .s) (withNext (at2 .s) (at2 .next)) r some .0)) in
+    let its = sym (row-in (a .t1) (start .pre .0) _ (who-first (a .policy) (a .t1) (start .pre .0) (a .requests .now) (a .loadings .now) (at .time) (at-most-end (at .inv .0) (start .pre .1 .1)) (at .s) (at2 .s) r some .0)) in
     let again = rw (any-default _ _ 0 never held) at (loaded .before .continues .ensures) in
-    let span = counted .span .ensures ∙ ap (λ x. min (x - at .time) 4294967295) (counted .before .sooner8 .ensures) in
+    let span = counted .span .ensures ∙ ap (λ x. min (x - at .time) 4294967295) (counted .before .sooner6 .ensures) in
     let held-due = long-enough (r .passed .full .due) low in
     let took = larger .greater .ensures ∙ ap (max _) (rest .minus3 .ensures ∙ ap (λ x. getD (a .t1 .rows) (at2 .s .best % 16) noRow .period - x) (rw (any-default _ _ 0 never held) at (rest .before .span2 .ensures))) in
     let soon = rw (any-default _ _ 0 never held-due) at (left .without .ensures) in
-    measure-on (a .end) (at .time) (counted .before .before .finish .result) (at .mark) (full-after (a .policy) (a .t1) (start .pre .0) (a .requests .now) (a .loadings .now) (a .first) (start .pre .1 .0) (a .end) (start .pre .1 .1) _ (at .slots) (at .s) (at .was) (at .mark) (at .time) (at .inv .3) on-time later more (withNext (at2 .s) (at2 .next)) r _ stop some _ its _ again _ (loaded .load .ensures) _ (counted .before .before .finish .ensures) _ span _ (painted .stretch2 .ensures) (all .if7 .left) _ took _ (head .before .before .before .blocks2 .ensures .1) _ soon _ (c .least .ensures)) (going-ends (a .policy) (a .t1) (start .pre .0) (a .requests .now) (a .loadings .now) (a .first) (start .pre .1 .0) (a .end) (start .pre .1 .1) _ (at .slots) (at .s) (at .was) (at .mark) (at .time) (at .inv .3) on-time later more (withNext (at2 .s) (at2 .next)) r _ stop some _ its _ again _ (loaded .load .ensures) _ (counted .before .before .finish .ensures) _ span _ (painted .stretch2 .ensures) (all .if7 .left) _ took _ (head .before .before .before .blocks2 .ensures .1) _ soon _ (c .least .ensures) .most)
+    measure-on (a .end) (at .time) (counted .before .before .finish .result) (at .mark) (full-after (a .policy) (a .t1) (start .pre .0) (a .requests .now) (a .loadings .now) (a .first) (start .pre .1 .0) (a .end) (start .pre .1 .1) _ (at .slots) (at .s) (at .was) (at .mark) (at .time) (at .inv .3) on-time later more (at2 .s) r _ stop some _ its _ again _ (loaded .load .ensures) _ (counted .before .before .finish .ensures) _ span _ (painted .stretch2 .ensures) (all .if6 .left) _ took _ (head .before .before .before .blocks2 .ensures .1) _ soon _ (c .least2 .ensures)) (going-ends (a .policy) (a .t1) (start .pre .0) (a .requests .now) (a .loadings .now) (a .first) (start .pre .1 .0) (a .end) (start .pre .1 .1) _ (at .slots) (at .s) (at .was) (at .mark) (at .time) (at .inv .3) on-time later more (at2 .s) r _ stop some _ its _ again _ (loaded .load .ensures) _ (counted .before .before .finish .ensures) _ span _ (painted .stretch2 .ensures) (all .if6 .left) _ took _ (head .before .before .before .blocks2 .ensures .1) _ soon _ (c .least2 .ensures) .most)
 
 loop-again-4 : tie.Need-loop-again-4 Inv-loop2 μ-loop2 Inv-loop μ-loop
 loop-again-4 c =
@@ -626,7 +567,7 @@ loop-again-4 c =
     let chosen = loaded .before .before .before .before .before .before .before .before in
     let until = chosen .before in
     let passed = until .before .before .before in
-    let goes-on = passed .before .before .before .before in
+    let goes-on = passed .before .before in
     let head = goes-on .before .before .before in
     let start = head .before .before .before .before .before .before .before in
     let a = start .args in
@@ -635,19 +576,18 @@ loop-again-4 c =
     let on-time = goes-on .before .before .if1 .left in
     let later = goes-on .before .if2 .left in
     let more = goes-on .if4 .left in
-    let top = passed .before .before .before .top .ensures in
-    let r = ready (a .policy) (a .t1) (start .pre .0) (a .requests .now) (a .loadings .now) (at .time) (at .s) (at .inv .3 .at) (at2 .i) (at2 .s) (at2 .next) (at2 .inv .2) (at2 .inv .3) (rw top at (at2 .inv .0)) (rw top at (passed .loop2-test .left)) in
-    let stop = until .sooner7 .ensures ∙ ap (λ x. min x (until .before .sooner6 .result)) (until .before .before .sooner5 .ensures) ∙ ap (min (min (a .end) (at .mark))) (until .before .sooner6 .ensures) in
-    let some = chosen .if6 .left in
+    let r = ready (a .policy) (a .t1) (start .pre .0) (a .requests .now) (a .loadings .now) (at .time) (at-most-end (at .inv .0) (start .pre .1 .1)) (at .s) (at .inv .3 .at) (at2 .s) (at2 .inv) (passed .loop2-test .left) in
+    let stop = until .sooner5 .ensures ∙ ap (λ x. min x (until .before .sooner4 .result)) (until .before .before .sooner3 .ensures) ∙ ap (min (min (a .end) (at .mark))) (until .before .sooner4 .ensures) in
+    let some = chosen .if5 .left in
     let low = row-low (at2 .s .best) in
     let held = long-enough (r .passed .full .release) low in
-    let its = sym (row-in (a .t1) (start .pre .0) _ (who-first (a .policy) (a .t1) (start .pre .0) (a .requests .now) (a .loadings .now) (at .time) (at-most-end (at .inv .0) (start .pre .1 .1)) (at .s) (withNext (at2 .s) (at2 .next)) r some .0)) in
+    let its = sym (row-in (a .t1) (start .pre .0) _ (who-first (a .policy) (a .t1) (start .pre .0) (a .requests .now) (a .loadings .now) (at .time) (at-most-end (at .inv .0) (start .pre .1 .1)) (at .s) (at2 .s) r some .0)) in
     let again = rw (any-default _ _ 0 never held) at (loaded .before .continues .ensures) in
-    let span = counted .span .ensures ∙ ap (λ x. min (x - at .time) 4294967295) (counted .before .sooner8 .ensures) in
+    let span = counted .span .ensures ∙ ap (λ x. min (x - at .time) 4294967295) (counted .before .sooner6 .ensures) in
     let held-due = long-enough (r .passed .full .due) low in
     let took = larger .greater .ensures ∙ ap (max _) (rest .minus3 .ensures ∙ ap (λ x. getD (a .t1 .rows) (at2 .s .best % 16) noRow .period - x) (rw (any-default _ _ 0 never held) at (rest .before .span2 .ensures))) in
     let soon = rw (any-default _ _ 0 never held-due) at (left .without .ensures) in
-    let g = going-ends (a .policy) (a .t1) (start .pre .0) (a .requests .now) (a .loadings .now) (a .first) (start .pre .1 .0) (a .end) (start .pre .1 .1) _ (at .slots) (at .s) (at .was) (at .mark) (at .time) (at .inv .3) on-time later more (withNext (at2 .s) (at2 .next)) r _ stop some _ its _ again _ (loaded .load .ensures) _ (counted .before .before .finish .ensures) _ span _ (painted .stretch2 .ensures) (all .if7 .left) _ took _ (head .before .before .before .blocks2 .ensures .1) _ soon _ (c .least .ensures) in
+    let g = going-ends (a .policy) (a .t1) (start .pre .0) (a .requests .now) (a .loadings .now) (a .first) (start .pre .1 .0) (a .end) (start .pre .1 .1) _ (at .slots) (at .s) (at .was) (at .mark) (at .time) (at .inv .3) on-time later more (at2 .s) r _ stop some _ its _ again _ (loaded .load .ensures) _ (counted .before .before .finish .ensures) _ span _ (painted .stretch2 .ensures) (all .if6 .left) _ took _ (head .before .before .before .blocks2 .ensures .1) _ soon _ (c .least2 .ensures) in
     (g .most, at .inv .1, g .painted .size, g)
 
 pub run-spec : {M : Type 1} → statement M
@@ -674,11 +614,7 @@ run-spec =
     loop-again
     same-length-3
     returns-3
-    top-requires
-    from-requires
     loop2-holds
-    mul-release
-    element-copy-out-release
     mul-r
     element-copy-out-r
     entry-requires
@@ -696,17 +632,12 @@ run-spec =
     sooner-requires
     sooner-requires-2
     used-requires
-    sooner-requires-3
-    add-i
+    least-requires
     loop2-less
     loop2-again
+    sooner-requires-3
     sooner-requires-4
-    add-i-2
-    loop2-less-2
-    loop2-again-2
     sooner-requires-5
-    sooner-requires-6
-    sooner-requires-7
     sub-stretch
     stretch-requires
     loop-less-2
@@ -725,7 +656,7 @@ run-spec =
     continues-requires
     load-requires
     finish-requires
-    sooner-requires-8
+    sooner-requires-6
     span-requires
     cast-stretch
     add-stretch
@@ -757,6 +688,6 @@ run-spec =
     mul-s-6
     element-write-s-6
     without-requires
-    least-requires
+    least-requires-2
     loop-less-4
     loop-again-4)
