@@ -5,11 +5,6 @@ ghost use Rattle.boundary.specs.Crossing.{VerdictCrosses, ResponsesCross
 mod little;
 mod pack;
 
-// The numbers of checks 1 and 2.
-const POLICY_WRONG: u32 = 1;
-
-const BUFFER_WRONG: u32 = 2;
-
 // The bytes that responses are lent, four a number.
 const RESPONSES_LEN: usize = 64;
 
@@ -33,10 +28,10 @@ pub extern "C" fn otter_responses(
     ensures { λ r. ⌜ ResponsesCross policy allowance (now (text .entry)) (now (responses .entry)) (now (responses .exit)) r ⌝ }
 {
     if table::policy_wrong(policy) {
-        return pack::refused(POLICY_WRONG);
+        return pack::refused(table::POLICY_WRONG);
     }
     if responses.len() < RESPONSES_LEN {
-        return pack::refused(BUFFER_WRONG);
+        return pack::refused(table::BUFFER_WRONG);
     }
     let mut numbers = [0u32; 16];
     little::read(responses, &mut numbers);

@@ -3,20 +3,15 @@ ghost use mathlib.Core.Path.{_≡_};
 ghost use Rattle.checker.specs.Admitted.{admitted};
 use rules::TableRead;
 
-// The numbers of checks 1 and 2.
-const POLICY_WRONG: u32 = 1;
-
-const BUFFER_WRONG: u32 = 2;
-
 // The table and refusal number 0, or the first refusal and the empty table; `unfit` says that the lent buffer is wrong.
 pub fn admit(policy: u32, unfit: bool, text: &[u8]) -> TableRead
     ensures { λ r. ⌜ r ≡ admitted policy unfit (now (text .entry)) ⌝ }
 {
     if table::policy_wrong(policy) {
-        return table::refuse(POLICY_WRONG, 0);
+        return table::refuse(table::POLICY_WRONG, 0);
     }
     if unfit {
-        return table::refuse(BUFFER_WRONG, 0);
+        return table::refuse(table::BUFFER_WRONG, 0);
     }
     table::read_table(text)
 }
