@@ -16,7 +16,9 @@ use Rattle.rules.specs.declared.Table.{Table}
 use Rattle.rules.specs.Policies.{row}
 use Rattle.rules.specs.Slots.{complete}
 use Rattle.rules.specs.AsRun.{one, begins, asRun}
+use Rattle.rules.specs.Table.{noRow}
 use Rattle.basics.specs.Cases.{clash, eq-case, le-case}
+use Rattle.basics.specs.Lists.{any-default}
 use Rattle.theory.specs.Counters.{until, counts}
 use Rattle.theory.specs.Jump.{whose, loads}
 use Rattle.slots.specs.Jobs.{never, continuesOf, workedOf}
@@ -27,10 +29,10 @@ use Rattle.checker.specs.Least.{Least}
 use Rattle.checker.specs.Turns.{taggedOf, loadOf}
 use Rattle.checker.specs.Paint.{Painted, stretchId, stretchKind}
 use Rattle.checker.specs.Machine.{live, Sound, systemIn, choices, missAt, nothing, releaseIn, needIn, executedIn, worstIn, At, firstDue, Alike, Ran, PaintedRun}
-use Rattle.checker.proofs.SoundTables.{fine-in, count-top}
+use Rattle.checker.proofs.SoundTables.{row-in, fine-in, count-top}
 use Rattle.checker.proofs.Minima.{stays-empty, least-part, least-drop}
 use Rattle.checker.proofs.Painted.{painted-none}
-use Rattle.checker.proofs.Pass.{nowIn, Ready, Joining, joining-start}
+use Rattle.checker.proofs.Pass.{nowIn, Ready, Joining, joining-start, ready}
 use Rattle.checker.proofs.Who.{begun-before, who-first}
 use Rattle.checker.proofs.Loads.{loads-in, loadings-in}
 use Rattle.checker.proofs.Leap.{Near, quiet-in}
@@ -49,6 +51,19 @@ back-on u v h = omega arith
 
 near-span : (u v n release q i : ℕ) → v ≤ n / 16 → n ≤ release → release ≡ taggedOf (suc u + q) i → i < 16 → q < 10000 → v - u ≤ 4294967295
 near-span u v n release q i a b c d e = omega arith
+
+-- the least of four
+least-of : (a b c d x y n : ℕ) → x ≡ min a b → y ≡ min c d → n ≡ min x y → (n ≤ a) × (n ≤ b) × (n ≤ c) × (n ≤ d)
+least-of a b c d x y n e f g = (omega arith, omega arith, omega arith, omega arith)
+
+before-all : (u a b c d x y n : ℕ) → x ≡ min a b → y ≡ min c d → n ≡ min x y → u < a → u < b → u < c → u < d → u < n
+before-all u a b c d x y n e f g h i j k = omega arith
+
+neither : {a b : ℕ} → a ≤ b → b ≤ a → a ≡ b
+neither h k = omega arith
+
+within : {a b c : ℕ} → a ≤ b → b ≤ c → a ≤ c
+within h k = omega arith
 
 -- the slots that are counted, where they end with `stop` and where they end with the job
 span-stop : (u stop full d : ℕ) → d ≡ min (min stop full - u) 4294967295 → stop < full → stop - u ≤ 4294967295 → d ≡ stop - u
@@ -139,24 +154,29 @@ module _ (p : ℕ) (t : Table) (sound : Sound t) (xs zs : List ℕ) (first : ℕ
         pub joining-now : Joining p t xs zs u s s
         joining-now = joining-start p t sound xs zs u low s (g .at) (ahead-of p t sound xs zs u below s (g .at) on-time)
 
-        module _ (more : u ≢ end) (s₁ : State) (r : Ready p t xs zs u s s₁) (stop : ℕ) (is : stop ≡ min (min end mark) (min (s₁ .next / 16) (s₁ .soonest))) where
-          pub stop-after : u < stop
-          stop-after =
-              let a : u < end = le-case end u (λ h. absurd (more (omega (arith, g .most)))) (λ h. h) in
-              let b = mark-later p t xs zs first mark u was (g .watched) below kind later in
-              omega (arith, is, a, b, r .later, r .passed .ahead)
+        module _ (more : u ≢ end) (s₁ : State) (all : Joining p t xs zs u s s₁) (none : s₁ .next / 16 ≢ u)
+            (x y stop : ℕ) (x-is : x ≡ min end mark) (y-is : y ≡ min (s₁ .next / 16) (s₁ .soonest)) (stop-is : stop ≡ min x y) where
+          r : Ready p t xs zs u s s₁
+          r = ready p t sound xs zs u low s (g .at) s₁ all none
 
-          near-next : (v : ℕ) → v ≤ stop → v ≤ s₁ .next / 16
-          near-next v h = omega (arith, is)
+          bounds : (stop ≤ end) × (stop ≤ mark) × (stop ≤ s₁ .next / 16) × (stop ≤ s₁ .soonest)
+          bounds = least-of end mark (s₁ .next / 16) (s₁ .soonest) x y stop x-is y-is stop-is
+
+          pub stop-after : u < stop
+          stop-after = before-all u end mark (s₁ .next / 16) (s₁ .soonest) x y stop x-is y-is stop-is not-end
+              (mark-later p t xs zs first mark u was (g .watched) below kind later) (r .later) (r .passed .ahead)
+            where
+              not-end : u < end
+              not-end = le-case end u (λ h. absurd (more (neither (g .most) h))) (λ h. h)
 
           near : (v : ℕ) → u < v → v ≤ stop → Near u v s₁
-          near v a b = record { after = a; next = omega (arith, is); soonest = omega (arith, is) }
+          near v a b = record { after = a; next = within b (bounds .2); soonest = within b (bounds .3) }
 
           going-on : (v : ℕ) → v ≤ stop → (s′ : State) → At p t xs zs v s′ → (slots′ : List ℕ) → PaintedRun p t xs zs 0 v before slots′ → Going p t xs zs first end before slots′ s′ was mark v
           going-on v h s′ a slots′ b = record {
-            most = omega (arith, is);
+            most = within h (bounds .0);
             at = a;
-            watched = watched-on p t xs zs first mark u was (g .watched) below v (omega (arith, is));
+            watched = watched-on p t xs zs first mark u was (g .watched) below v (within h (bounds .1));
             painted = b;
           }
 
@@ -164,20 +184,29 @@ module _ (p : ℕ) (t : Table) (sound : Sound t) (xs zs : List ℕ) (first : ℕ
           pub going-idle : s₁ .best ≡ never → (slots′ : List ℕ) → Painted (stretchId 0 0) (stretchKind u 0 0) u (u + (stop - u)) slots slots′
               → Going p t xs zs first end before slots′ (idleState s₁) was mark stop
           going-idle none slots′ b =
-              let n = near stop stop-after (omega arith) in
-              going-on stop (omega arith) (idleState s₁) (idle-at p t sound xs zs u low s (g .at) clear s₁ r stop n none) slots′
+              let n = near stop stop-after (at-most stop) in
+              going-on stop (at-most stop) (idleState s₁) (idle-at p t sound xs zs u low s (g .at) clear s₁ r stop n none) slots′
               (painted-on p t sound xs zs u stop stop-after (quiet-in p t sound xs zs u low s (g .at) s₁ r stop n) (idle-busy p t sound xs zs u low s (g .at) clear s₁ r stop n none)
               0 (sym (nobody p t sound xs zs u low s (g .at) clear s₁ r stop n none)) 0 (sym (no-load p t sound xs zs u low s (g .at) clear s₁ r stop n none))
-              0 (λ i e. absurd (omega arith)) (stop - u) (back-on u stop stop-after) (g .painted) b)
+              0 (λ i e. absurd (apart i e)) (stop - u) (back-on u stop stop-after) (g .painted) b)
+            where
+              apart : (i : ℕ) → _≢_ {A = ℕ} 0 (suc i)
+              apart i e = omega arith
 
           -- task i has them
-          module _ (some : s₁ .best ≢ never) (w : Row) (its : w ≡ row (live t) (s₁ .best % 16)) (again : Bool)
-              (on : again ≡ continuesOf (s₁ .last) (s₁ .best % 16 + 1) (releaseIn s₁ (s₁ .best % 16) / 16) (u + w .period))
-              (l : ToLoad) (load : l ≡ loadOf w (getD (s₁ .executed) (s₁ .best % 16) nothing) again (s₁ .left) (s₁ .begun) zs)
+          module _ (some : s₁ .best ≢ never) (again : Bool)
+              (on : again ≡ continuesOf (s₁ .last) (s₁ .best % 16 + 1) (getD (s₁ .release) (s₁ .best % 16) 0 / 16) (u + getD (t .rows) (s₁ .best % 16) noRow .period))
+              (l : ToLoad) (load : l ≡ loadOf (getD (t .rows) (s₁ .best % 16) noRow) (getD (s₁ .executed) (s₁ .best % 16) nothing) again (s₁ .left) (s₁ .begun) zs)
               (full : ℕ) (fills : full ≡ u + l .slots .0 + (needIn s₁ (s₁ .best % 16) - executedIn s₁ (s₁ .best % 16)))
-              (d : ℕ) (span : d ≡ min (min stop full - u) 4294967295) where
+              (ends d : ℕ) (ends-is : ends ≡ min stop full) (d-is : d ≡ min (ends - u) 4294967295) where
             abbrev i : ℕ
             i = s₁ .best % 16
+
+            abbrev w : Row
+            w = getD (t .rows) i noRow
+
+            span : d ≡ min (min stop full - u) 4294967295
+            span = rw ends-is at d-is
 
             has : (i < t .count) × (whose (systemIn p t) (choices p t xs zs) u ≡ suc i) × (complete (nowIn p t xs zs u) i ≡ false)
             has = who-first p t sound xs zs u low s s₁ r some
@@ -185,18 +214,31 @@ module _ (p : ℕ) (t : Table) (sound : Sound t) (xs zs : List ℕ) (first : ℕ
             pub task-low : i < 16
             task-low = omega (arith, has .0, count-top t sound)
 
+            its : w ≡ row (live t) i
+            its = sym (row-in t sound i (has .0))
+
+            in-release : i < length (s₁ .release)
+            in-release = rw (r .passed .full .release) task-low
+
+            -- what the code reads is what the state says
+            read-release : getD (s₁ .release) i 0 ≡ releaseIn s₁ i
+            read-release = any-default (s₁ .release) i 0 never in-release
+
+            on-is : again ≡ continuesOf (s₁ .last) (suc i) (releaseIn s₁ i / 16) (u + row (live t) i .period)
+            on-is = rw (add-one i, read-release, its) at on
+
             to-load : l .slots .0 ≡ loads (systemIn p t) (choices p t xs zs) u
-            to-load = loads-in p t sound xs zs u s (g .at) s₁ r i (has .0) (has .1) again (rw (add-one (s₁ .best % 16), its) at on) l (rw its at load)
+            to-load = loads-in p t sound xs zs u s (g .at) s₁ r i (has .0) (has .1) again on-is l (rw its at load)
 
             -- not further than 32 bits count
             in-span : (v : ℕ) → v ≤ stop → v - u ≤ 4294967295
             in-span v h =
                 let f = fine-in t sound i (has .0) in
                 let c = counts (row (live t) i) (omega (arith, f .wcet-low, f .wcet-deadline, f .deadline-period)) (suc u) .soon (omega (arith, begun-before p t sound xs zs u low s s₁ r i (has .0) (has .2))) in
-                near-span u v (s₁ .next) (releaseIn s₁ i) (until (row (live t) i) (suc u)) i (near-next v h) (r .next .low i (has .0)) (r .passed .joined i (has .0) .release) task-low (within c (f .period-high))
+                near-span u v (s₁ .next) (releaseIn s₁ i) (until (row (live t) i) (suc u)) i (within h (bounds .2)) (r .next .low i (has .0)) (r .passed .joined i (has .0) .release) task-low (below-all c (f .period-high))
               where
-                within : {a b : ℕ} → a < b → b ≤ 10000 → a < 10000
-                within x y = omega arith
+                below-all : {b c : ℕ} → b < c → c ≤ 10000 → b < 10000
+                below-all h k = omega arith
 
             free : 0 < needIn s₁ i - executedIn s₁ i
             free =
@@ -220,12 +262,12 @@ module _ (p : ℕ) (t : Table) (sound : Sound t) (xs zs : List ℕ) (first : ℕ
 
             loadings : drop (l .begun) zs
                 ≡ drop (one (begins (systemIn p t) (nowIn p t xs zs u) (whose (systemIn p t) (choices p t xs zs) u))) (asRun (systemIn p t) xs zs u .loadings)
-            loadings = loadings-in p t sound xs zs u s (g .at) s₁ r i (has .0) (has .1) again (rw (add-one (s₁ .best % 16), its) at on) l (rw its at load)
+            loadings = loadings-in p t sound xs zs u s (g .at) s₁ r i (has .0) (has .1) again on-is l (rw its at load)
 
             module _ (slots′ : List ℕ) (b : Painted (stretchId (i + 1) (w .id)) (stretchKind u (i + 1) (l .slots .0)) u (u + d) slots slots′) where
               -- it goes on after them
-              module _ (less : stop < full) (x : Executed) (x-is : x ≡ workedOf (getD (s₁ .need) i nothing) (getD (s₁ .executed) i nothing) (d - l .slots .0))
-                  (y : Loading) (y-is : y .0 ≡ l .slots .0 - d) where
+              module _ (less : stop < full) (e : Executed) (e-is : e ≡ workedOf (getD (s₁ .need) i nothing) (getD (s₁ .executed) i nothing) (d - l .slots .0))
+                  (lo : Loading) (lo-is : lo .0 ≡ l .slots .0 - d) where
                 d-stop : d ≡ stop - u
                 d-stop = span-stop u stop full d span less (in-span stop (at-most stop))
 
@@ -235,8 +277,8 @@ module _ (p : ℕ) (t : Table) (sound : Sound t) (xs zs : List ℕ) (first : ℕ
                 more-left : stop - u - l .slots .0 < needIn s₁ i - executedIn s₁ i
                 more-left = some-left u stop (l .slots .0) (needIn s₁ i - executedIn s₁ i) (rw fills at less) free
 
-                x-count : x .0 ≡ executedIn s₁ i + (stop - u - loads (systemIn p t) (choices p t xs zs) u)
-                x-count = ap (λ (n : Executed). n .0) (rw (d-stop, lt-ltb (stop - u - l .slots .0) (needIn s₁ i - executedIn s₁ i) more-left) at x-is)
+                e-count : e .0 ≡ executedIn s₁ i + (stop - u - loads (systemIn p t) (choices p t xs zs) u)
+                e-count = ap (λ (n : Executed). n .0) (rw (d-stop, lt-ltb (stop - u - l .slots .0) (needIn s₁ i - executedIn s₁ i) more-left) at e-is)
                     ∙ ap (λ n. executedIn s₁ i + (stop - u - n)) to-load
 
                 less-is : stop < u + loads (systemIn p t) (choices p t xs zs) u + (needIn s₁ i - executedIn s₁ i)
@@ -248,19 +290,19 @@ module _ (p : ℕ) (t : Table) (sound : Sound t) (xs zs : List ℕ) (first : ℕ
                     weaker : {m n : ℕ} → m < n → m ≤ n
                     weaker h = omega arith
 
-                pub going-goes : Going p t xs zs first end before slots′ (goesState s₁ i x y (l .begun)) was mark stop
-                going-goes = going-on stop (at-most stop) (goesState s₁ i x y (l .begun))
-                    (goes-at p t sound xs zs u low s (g .at) clear s₁ r stop n-stop i (has .0) (has .1) (has .2) (l .begun) loadings room less-is x x-count y
-                    (y-is ∙ ap (λ n. l .slots .0 - n) d-stop ∙ ap (λ n. n - (stop - u)) to-load)) slots′
+                pub going-goes : Going p t xs zs first end before slots′ (goesState s₁ i e lo (l .begun)) was mark stop
+                going-goes = going-on stop (at-most stop) (goesState s₁ i e lo (l .begun))
+                    (goes-at p t sound xs zs u low s (g .at) clear s₁ r stop n-stop i (has .0) (has .1) (has .2) (l .begun) loadings room less-is e e-count lo
+                    (lo-is ∙ ap (λ n. l .slots .0 - n) d-stop ∙ ap (λ n. n - (stop - u)) to-load)) slots′
                     (painted-on p t sound xs zs u stop stop-after (quiet-in p t sound xs zs u low s (g .at) s₁ r stop n-stop)
                     (task-busy p t sound xs zs u low s (g .at) clear s₁ r stop n-stop i (has .0) (has .1) (has .2) (l .begun) loadings room)
                     (i + 1) (add-one i ∙ sym (has .1)) (l .slots .0) to-load (w .id) its-id d (ap (λ n. u + n) d-stop ∙ back-on u stop stop-after) (g .painted) b)
 
               -- its job is complete with them
-              module _ (fits : full ≤ stop) (worst : ℕ) (took : worst ≡ max (worstIn s₁ i) (w .period - min (releaseIn s₁ i / 16 - full) 4294967295))
-                  (blocks : ℕ) (enough : t .count ≤ 4 * blocks)
-                  (soonest : ℕ) (soon : (getD (s₁ .due) i never ≡ s₁ .soonest → Least (4 * blocks) (set (s₁ .due) i never) soonest)
-                  × (getD (s₁ .due) i never ≢ s₁ .soonest → soonest ≡ s₁ .soonest))
+              module _ (fits : full ≤ stop) (rest took worst : ℕ) (rest-is : rest ≡ min (getD (s₁ .release) i 0 / 16 - full) 4294967295) (took-is : took ≡ w .period - rest)
+                  (worst-is : worst ≡ max (worstIn s₁ i) took) (blocks : ℕ) (enough : t .count ≤ 4 * blocks)
+                  (soonest : ℕ) (soon : (getD (s₁ .due) i 0 ≡ s₁ .soonest → Least (4 * blocks) (set (s₁ .due) i never) soonest)
+                  × (getD (s₁ .due) i 0 ≢ s₁ .soonest → soonest ≡ s₁ .soonest))
                   (best : ℕ) (next-best : Least (4 * blocks) (set (s₁ .key) i never) best) where
                 pub full-after : u < full
                 full-after = rw fills (beyond u (l .slots .0) (needIn s₁ i - executedIn s₁ i) free)
@@ -280,10 +322,16 @@ module _ (p : ℕ) (t : Table) (sound : Sound t) (xs zs : List ℕ) (first : ℕ
                 in-key : i < length (s₁ .key)
                 in-key = rw (r .passed .full .key) task-low
 
+                read-due : getD (s₁ .due) i 0 ≡ getD (s₁ .due) i never
+                read-due = any-default (s₁ .due) i 0 never in-due
+
+                response : worst ≡ max (worstIn s₁ i) (row (live t) i .period - min (releaseIn s₁ i / 16 - full) 4294967295)
+                response = rw (took-is, rest-is, read-release, its) at worst-is
+
                 soonest-is : Least (t .count) (set (s₁ .due) i never) soonest
                 soonest-is = eq-case (getD (s₁ .due) i never) (s₁ .soonest)
-                    (λ e. least-part (t .count) (4 * blocks) (set (s₁ .due) i never) soonest enough (λ k h. stays-empty (s₁ .due) i k in-due (r .rest k h .due)) (soon .0 e))
-                    (λ e. rw (soon .1 e) (least-drop (t .count) (s₁ .due) (s₁ .soonest) i in-due (r .passed .soonest) e))
+                    (λ e. least-part (t .count) (4 * blocks) (set (s₁ .due) i never) soonest enough (λ k h. stays-empty (s₁ .due) i k in-due (r .rest k h .due)) (soon .0 (read-due ∙ e)))
+                    (λ e. rw (soon .1 (λ z. e (sym read-due ∙ z))) (least-drop (t .count) (s₁ .due) (s₁ .soonest) i in-due (r .passed .soonest) e))
 
                 best-is : Least (t .count) (set (s₁ .key) i never) best
                 best-is = least-part (t .count) (4 * blocks) (set (s₁ .key) i never) best enough (λ k h. stays-empty (s₁ .key) i k in-key (r .rest k h .key)) next-best
@@ -293,7 +341,7 @@ module _ (p : ℕ) (t : Table) (sound : Sound t) (xs zs : List ℕ) (first : ℕ
 
                 pub going-ends : Going p t xs zs first end before slots′ (endsState s₁ i worst soonest best (l .begun)) was mark full
                 going-ends = going-on full fits (endsState s₁ i worst soonest best (l .begun))
-                    (ends-at p t sound xs zs u low s (g .at) clear s₁ r full n-full i (has .0) (has .1) (has .2) (l .begun) loadings room-full full-is worst (rw its at took)
+                    (ends-at p t sound xs zs u low s (g .at) clear s₁ r full n-full i (has .0) (has .1) (has .2) (l .begun) loadings room-full full-is worst response
                     soonest soonest-is best best-is) slots′
                     (painted-on p t sound xs zs u full full-after (quiet-in p t sound xs zs u low s (g .at) s₁ r full n-full)
                     (task-busy p t sound xs zs u low s (g .at) clear s₁ r full n-full i (has .0) (has .1) (has .2) (l .begun) loadings room-full)

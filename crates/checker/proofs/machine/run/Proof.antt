@@ -1,18 +1,15 @@
 -- The loop over events: `Going` holds at its head, and `Joining` while jobs join. Each way through a turn is a law of `Going`.
-use mathlib.Core.Path.{_≡_, refl, sym, ap, _∙_}
+use mathlib.Core.Path.{_≡_, refl, ap, _∙_}
 use mathlib.Core.Bool.{Bool, true, false, cond}
-use Prim.Native.Nat.{ℕ, _+_, _-_, _*_, _/_, _%_, _≤_, _<_, min, max}
+use Prim.Native.Nat.{ℕ, _+_, _-_, _*_, _/_, _%_, _≤_, _<_}
 use native.Mathlib.Omega.{arith}
 use borrow.Author.Needs.{needs}
 use borrow.Author.Tests.{eq-eqb, ne-eqb}
 use lib.Dec.{eqb}
-use lib.ListN.{getD, length, length-set}
-use Rattle.rules.specs.Table.{noRow}
-use Rattle.basics.specs.Lists.{any-default}
-use Rattle.slots.specs.Jobs.{never, workedOf}
+use lib.ListN.{length, length-set}
+use Rattle.slots.specs.Jobs.{workedOf}
 use Rattle.checker.proofs.SoundTables.{count-top, hyper-some, row-in}
-use Rattle.checker.proofs.Pass.{Joining, row-below, joining-turn, joining-less, ready}
-use Rattle.checker.proofs.Who.{who-first}
+use Rattle.checker.proofs.Pass.{Joining, row-below, joining-turn, joining-less}
 use Rattle.checker.proofs.Going.{Going, going-start, ran-missed, ran-repeats, going-marked, ran-through, joining-now, stop-after, going-idle, going-goes, full-after, going-ends}
 use Rattle.checker.proofs.machine.run.Statement.{statement}
 use Rattle.checker.proofs.machine.run.Tie as tie
@@ -33,9 +30,6 @@ measure-joins : (u next n : ℕ) → next / 16 ≡ u → next < n → (u + 1) * 
 measure-joins u next n e h = omega arith
 
 -- PLACES
-
-long-enough : {n i : ℕ} → n ≡ 16 → i < 16 → i < n
-long-enough e h = omega arith
 
 row-low : (b : ℕ) → b % 16 < 16
 row-low b = omega arith
@@ -261,12 +255,7 @@ sub-stretch c =
     let a = start .args in
     let at = head .loop in
     let at2 = passed .before .loop2 in
-    let on-time = goes-on .before .before .if1 .left in
-    let later = goes-on .before .if2 .left in
-    let more = goes-on .if4 .left in
-    let r = ready (a .policy) (a .t1) (start .pre .0) (a .requests .now) (a .loadings .now) (at .time) (at-most-end (at .inv .0) (start .pre .1 .1)) (at .s) (at .inv .3 .at) (at2 .s) (at2 .inv) (passed .loop2-test .left) in
-    let stop = until .sooner5 .ensures ∙ ap (λ x. min x (until .before .sooner4 .result)) (until .before .before .sooner3 .ensures) ∙ ap (min (min (a .end) (at .mark))) (until .before .sooner4 .ensures) in
-    less-most (stop-after (a .policy) (a .t1) (start .pre .0) (a .requests .now) (a .loadings .now) (a .first) (start .pre .1 .0) (a .end) (start .pre .1 .1) _ (at .slots) (at .s) (at .was) (at .mark) (at .time) (at .inv .3) on-time later more (at2 .s) r _ stop)
+    less-most (stop-after (a .policy) (a .t1) (start .pre .0) (a .requests .now) (a .loadings .now) (a .first) (start .pre .1 .0) (a .end) (start .pre .1 .1) _ (at .slots) (at .s) (at .was) (at .mark) (at .time) (at .inv .3) (goes-on .before .before .if1 .left) (goes-on .before .if2 .left) (goes-on .if4 .left) (at2 .s) (at2 .inv) (passed .loop2-test .left) _ _ _ (until .before .before .sooner3 .ensures) (until .before .sooner4 .ensures) (until .sooner5 .ensures))
 
 stretch-requires : tie.Need-stretch-requires Inv-loop2 μ-loop2 Inv-loop μ-loop
 stretch-requires c κs =
@@ -286,12 +275,7 @@ loop-less-2 c =
     let a = start .args in
     let at = head .loop in
     let at2 = passed .before .loop2 in
-    let on-time = goes-on .before .before .if1 .left in
-    let later = goes-on .before .if2 .left in
-    let more = goes-on .if4 .left in
-    let r = ready (a .policy) (a .t1) (start .pre .0) (a .requests .now) (a .loadings .now) (at .time) (at-most-end (at .inv .0) (start .pre .1 .1)) (at .s) (at .inv .3 .at) (at2 .s) (at2 .inv) (passed .loop2-test .left) in
-    let stop = until .sooner5 .ensures ∙ ap (λ x. min x (until .before .sooner4 .result)) (until .before .before .sooner3 .ensures) ∙ ap (min (min (a .end) (at .mark))) (until .before .sooner4 .ensures) in
-    measure-on (a .end) (at .time) (until .sooner5 .result) (at .mark) (stop-after (a .policy) (a .t1) (start .pre .0) (a .requests .now) (a .loadings .now) (a .first) (start .pre .1 .0) (a .end) (start .pre .1 .1) _ (at .slots) (at .s) (at .was) (at .mark) (at .time) (at .inv .3) on-time later more (at2 .s) r _ stop) (going-idle (a .policy) (a .t1) (start .pre .0) (a .requests .now) (a .loadings .now) (a .first) (start .pre .1 .0) (a .end) (start .pre .1 .1) _ (at .slots) (at .s) (at .was) (at .mark) (at .time) (at .inv .3) on-time later more (at2 .s) r _ stop (c .before .before .before .before .if5 .taken) _ (c .before .before .stretch .ensures) .most)
+    measure-on (a .end) (at .time) (until .sooner5 .result) (at .mark) (stop-after (a .policy) (a .t1) (start .pre .0) (a .requests .now) (a .loadings .now) (a .first) (start .pre .1 .0) (a .end) (start .pre .1 .1) _ (at .slots) (at .s) (at .was) (at .mark) (at .time) (at .inv .3) (goes-on .before .before .if1 .left) (goes-on .before .if2 .left) (goes-on .if4 .left) (at2 .s) (at2 .inv) (passed .loop2-test .left) _ _ _ (until .before .before .sooner3 .ensures) (until .before .sooner4 .ensures) (until .sooner5 .ensures)) (going-idle (a .policy) (a .t1) (start .pre .0) (a .requests .now) (a .loadings .now) (a .first) (start .pre .1 .0) (a .end) (start .pre .1 .1) _ (at .slots) (at .s) (at .was) (at .mark) (at .time) (at .inv .3) (goes-on .before .before .if1 .left) (goes-on .before .if2 .left) (goes-on .if4 .left) (at2 .s) (at2 .inv) (passed .loop2-test .left) _ _ _ (until .before .before .sooner3 .ensures) (until .before .sooner4 .ensures) (until .sooner5 .ensures) (c .before .before .before .before .if5 .taken) _ (c .before .before .stretch .ensures) .most)
 
 loop-again-2 : tie.Need-loop-again-2 Inv-loop2 μ-loop2 Inv-loop μ-loop
 loop-again-2 c =
@@ -303,12 +287,7 @@ loop-again-2 c =
     let a = start .args in
     let at = head .loop in
     let at2 = passed .before .loop2 in
-    let on-time = goes-on .before .before .if1 .left in
-    let later = goes-on .before .if2 .left in
-    let more = goes-on .if4 .left in
-    let r = ready (a .policy) (a .t1) (start .pre .0) (a .requests .now) (a .loadings .now) (at .time) (at-most-end (at .inv .0) (start .pre .1 .1)) (at .s) (at .inv .3 .at) (at2 .s) (at2 .inv) (passed .loop2-test .left) in
-    let stop = until .sooner5 .ensures ∙ ap (λ x. min x (until .before .sooner4 .result)) (until .before .before .sooner3 .ensures) ∙ ap (min (min (a .end) (at .mark))) (until .before .sooner4 .ensures) in
-    let g = going-idle (a .policy) (a .t1) (start .pre .0) (a .requests .now) (a .loadings .now) (a .first) (start .pre .1 .0) (a .end) (start .pre .1 .1) _ (at .slots) (at .s) (at .was) (at .mark) (at .time) (at .inv .3) on-time later more (at2 .s) r _ stop (c .before .before .before .before .if5 .taken) _ (c .before .before .stretch .ensures) in
+    let g = going-idle (a .policy) (a .t1) (start .pre .0) (a .requests .now) (a .loadings .now) (a .first) (start .pre .1 .0) (a .end) (start .pre .1 .1) _ (at .slots) (at .s) (at .was) (at .mark) (at .time) (at .inv .3) (goes-on .before .before .if1 .left) (goes-on .before .if2 .left) (goes-on .if4 .left) (at2 .s) (at2 .inv) (passed .loop2-test .left) _ _ _ (until .before .before .sooner3 .ensures) (until .before .sooner4 .ensures) (until .sooner5 .ensures) (c .before .before .before .before .if5 .taken) _ (c .before .before .stretch .ensures) in
     (g .most, at .inv .1, g .painted .size, g)
 
 mul-r-2 : tie.Need-mul-r-2 Inv-loop2 μ-loop2 Inv-loop μ-loop
@@ -415,19 +394,8 @@ loop-less-3 c =
     let a = start .args in
     let at = head .loop in
     let at2 = passed .before .loop2 in
-    let on-time = goes-on .before .before .if1 .left in
-    let later = goes-on .before .if2 .left in
-    let more = goes-on .if4 .left in
-    let r = ready (a .policy) (a .t1) (start .pre .0) (a .requests .now) (a .loadings .now) (at .time) (at-most-end (at .inv .0) (start .pre .1 .1)) (at .s) (at .inv .3 .at) (at2 .s) (at2 .inv) (passed .loop2-test .left) in
-    let stop = until .sooner5 .ensures ∙ ap (λ x. min x (until .before .sooner4 .result)) (until .before .before .sooner3 .ensures) ∙ ap (min (min (a .end) (at .mark))) (until .before .sooner4 .ensures) in
-    let some = chosen .if5 .left in
-    let low = row-low (at2 .s .best) in
-    let held = long-enough (r .passed .full .release) low in
-    let its = sym (row-in (a .t1) (start .pre .0) _ (who-first (a .policy) (a .t1) (start .pre .0) (a .requests .now) (a .loadings .now) (at .time) (at-most-end (at .inv .0) (start .pre .1 .1)) (at .s) (at2 .s) r some .0)) in
-    let again = rw (any-default _ _ 0 never held) at (loaded .before .continues .ensures) in
-    let span = counted .span .ensures ∙ ap (λ x. min (x - at .time) 4294967295) (counted .before .sooner6 .ensures) in
-    let g = going-goes (a .policy) (a .t1) (start .pre .0) (a .requests .now) (a .loadings .now) (a .first) (start .pre .1 .0) (a .end) (start .pre .1 .1) _ (at .slots) (at .s) (at .was) (at .mark) (at .time) (at .inv .3) on-time later more (at2 .s) r _ stop some _ its _ again _ (loaded .load .ensures) _ (counted .before .before .finish .ensures) _ span _ (painted .stretch2 .ensures) (short .if6 .taken) _ (c .before .worked .ensures ∙ ap (workedOf _ _) (c .before .before .minus .ensures)) _ (c .minus2 .ensures) in
-    measure-on (a .end) (at .time) (until .sooner5 .result) (at .mark) (stop-after (a .policy) (a .t1) (start .pre .0) (a .requests .now) (a .loadings .now) (a .first) (start .pre .1 .0) (a .end) (start .pre .1 .1) _ (at .slots) (at .s) (at .was) (at .mark) (at .time) (at .inv .3) on-time later more (at2 .s) r _ stop) (g .most)
+    let g = going-goes (a .policy) (a .t1) (start .pre .0) (a .requests .now) (a .loadings .now) (a .first) (start .pre .1 .0) (a .end) (start .pre .1 .1) _ (at .slots) (at .s) (at .was) (at .mark) (at .time) (at .inv .3) (goes-on .before .before .if1 .left) (goes-on .before .if2 .left) (goes-on .if4 .left) (at2 .s) (at2 .inv) (passed .loop2-test .left) _ _ _ (until .before .before .sooner3 .ensures) (until .before .sooner4 .ensures) (until .sooner5 .ensures) (chosen .if5 .left) _ (loaded .before .continues .ensures) _ (loaded .load .ensures) _ (counted .before .before .finish .ensures) _ _ (counted .before .sooner6 .ensures) (counted .span .ensures) _ (painted .stretch2 .ensures) (short .if6 .taken) _ (c .before .worked .ensures ∙ ap (workedOf _ _) (c .before .before .minus .ensures)) _ (c .minus2 .ensures) in
+    measure-on (a .end) (at .time) (until .sooner5 .result) (at .mark) (stop-after (a .policy) (a .t1) (start .pre .0) (a .requests .now) (a .loadings .now) (a .first) (start .pre .1 .0) (a .end) (start .pre .1 .1) _ (at .slots) (at .s) (at .was) (at .mark) (at .time) (at .inv .3) (goes-on .before .before .if1 .left) (goes-on .before .if2 .left) (goes-on .if4 .left) (at2 .s) (at2 .inv) (passed .loop2-test .left) _ _ _ (until .before .before .sooner3 .ensures) (until .before .sooner4 .ensures) (until .sooner5 .ensures)) (g .most)
 
 loop-again-3 : tie.Need-loop-again-3 Inv-loop2 μ-loop2 Inv-loop μ-loop
 loop-again-3 c =
@@ -444,18 +412,7 @@ loop-again-3 c =
     let a = start .args in
     let at = head .loop in
     let at2 = passed .before .loop2 in
-    let on-time = goes-on .before .before .if1 .left in
-    let later = goes-on .before .if2 .left in
-    let more = goes-on .if4 .left in
-    let r = ready (a .policy) (a .t1) (start .pre .0) (a .requests .now) (a .loadings .now) (at .time) (at-most-end (at .inv .0) (start .pre .1 .1)) (at .s) (at .inv .3 .at) (at2 .s) (at2 .inv) (passed .loop2-test .left) in
-    let stop = until .sooner5 .ensures ∙ ap (λ x. min x (until .before .sooner4 .result)) (until .before .before .sooner3 .ensures) ∙ ap (min (min (a .end) (at .mark))) (until .before .sooner4 .ensures) in
-    let some = chosen .if5 .left in
-    let low = row-low (at2 .s .best) in
-    let held = long-enough (r .passed .full .release) low in
-    let its = sym (row-in (a .t1) (start .pre .0) _ (who-first (a .policy) (a .t1) (start .pre .0) (a .requests .now) (a .loadings .now) (at .time) (at-most-end (at .inv .0) (start .pre .1 .1)) (at .s) (at2 .s) r some .0)) in
-    let again = rw (any-default _ _ 0 never held) at (loaded .before .continues .ensures) in
-    let span = counted .span .ensures ∙ ap (λ x. min (x - at .time) 4294967295) (counted .before .sooner6 .ensures) in
-    let g = going-goes (a .policy) (a .t1) (start .pre .0) (a .requests .now) (a .loadings .now) (a .first) (start .pre .1 .0) (a .end) (start .pre .1 .1) _ (at .slots) (at .s) (at .was) (at .mark) (at .time) (at .inv .3) on-time later more (at2 .s) r _ stop some _ its _ again _ (loaded .load .ensures) _ (counted .before .before .finish .ensures) _ span _ (painted .stretch2 .ensures) (short .if6 .taken) _ (c .before .worked .ensures ∙ ap (workedOf _ _) (c .before .before .minus .ensures)) _ (c .minus2 .ensures) in
+    let g = going-goes (a .policy) (a .t1) (start .pre .0) (a .requests .now) (a .loadings .now) (a .first) (start .pre .1 .0) (a .end) (start .pre .1 .1) _ (at .slots) (at .s) (at .was) (at .mark) (at .time) (at .inv .3) (goes-on .before .before .if1 .left) (goes-on .before .if2 .left) (goes-on .if4 .left) (at2 .s) (at2 .inv) (passed .loop2-test .left) _ _ _ (until .before .before .sooner3 .ensures) (until .before .sooner4 .ensures) (until .sooner5 .ensures) (chosen .if5 .left) _ (loaded .before .continues .ensures) _ (loaded .load .ensures) _ (counted .before .before .finish .ensures) _ _ (counted .before .sooner6 .ensures) (counted .span .ensures) _ (painted .stretch2 .ensures) (short .if6 .taken) _ (c .before .worked .ensures ∙ ap (workedOf _ _) (c .before .before .minus .ensures)) _ (c .minus2 .ensures) in
     (g .most, at .inv .1, g .painted .size, g)
 
 mul-span : tie.Need-mul-span Inv-loop2 μ-loop2 Inv-loop μ-loop
@@ -539,21 +496,7 @@ loop-less-4 c =
     let a = start .args in
     let at = head .loop in
     let at2 = passed .before .loop2 in
-    let on-time = goes-on .before .before .if1 .left in
-    let later = goes-on .before .if2 .left in
-    let more = goes-on .if4 .left in
-    let r = ready (a .policy) (a .t1) (start .pre .0) (a .requests .now) (a .loadings .now) (at .time) (at-most-end (at .inv .0) (start .pre .1 .1)) (at .s) (at .inv .3 .at) (at2 .s) (at2 .inv) (passed .loop2-test .left) in
-    let stop = until .sooner5 .ensures ∙ ap (λ x. min x (until .before .sooner4 .result)) (until .before .before .sooner3 .ensures) ∙ ap (min (min (a .end) (at .mark))) (until .before .sooner4 .ensures) in
-    let some = chosen .if5 .left in
-    let low = row-low (at2 .s .best) in
-    let held = long-enough (r .passed .full .release) low in
-    let its = sym (row-in (a .t1) (start .pre .0) _ (who-first (a .policy) (a .t1) (start .pre .0) (a .requests .now) (a .loadings .now) (at .time) (at-most-end (at .inv .0) (start .pre .1 .1)) (at .s) (at2 .s) r some .0)) in
-    let again = rw (any-default _ _ 0 never held) at (loaded .before .continues .ensures) in
-    let span = counted .span .ensures ∙ ap (λ x. min (x - at .time) 4294967295) (counted .before .sooner6 .ensures) in
-    let held-due = long-enough (r .passed .full .due) low in
-    let took = larger .greater .ensures ∙ ap (max _) (rest .minus3 .ensures ∙ ap (λ x. getD (a .t1 .rows) (at2 .s .best % 16) noRow .period - x) (rw (any-default _ _ 0 never held) at (rest .before .span2 .ensures))) in
-    let soon = rw (any-default _ _ 0 never held-due) at (left .without .ensures) in
-    measure-on (a .end) (at .time) (counted .before .before .finish .result) (at .mark) (full-after (a .policy) (a .t1) (start .pre .0) (a .requests .now) (a .loadings .now) (a .first) (start .pre .1 .0) (a .end) (start .pre .1 .1) _ (at .slots) (at .s) (at .was) (at .mark) (at .time) (at .inv .3) on-time later more (at2 .s) r _ stop some _ its _ again _ (loaded .load .ensures) _ (counted .before .before .finish .ensures) _ span _ (painted .stretch2 .ensures) (all .if6 .left) _ took _ (head .before .before .before .blocks2 .ensures .1) _ soon _ (c .least2 .ensures)) (going-ends (a .policy) (a .t1) (start .pre .0) (a .requests .now) (a .loadings .now) (a .first) (start .pre .1 .0) (a .end) (start .pre .1 .1) _ (at .slots) (at .s) (at .was) (at .mark) (at .time) (at .inv .3) on-time later more (at2 .s) r _ stop some _ its _ again _ (loaded .load .ensures) _ (counted .before .before .finish .ensures) _ span _ (painted .stretch2 .ensures) (all .if6 .left) _ took _ (head .before .before .before .blocks2 .ensures .1) _ soon _ (c .least2 .ensures) .most)
+    measure-on (a .end) (at .time) (counted .before .before .finish .result) (at .mark) (full-after (a .policy) (a .t1) (start .pre .0) (a .requests .now) (a .loadings .now) (a .first) (start .pre .1 .0) (a .end) (start .pre .1 .1) _ (at .slots) (at .s) (at .was) (at .mark) (at .time) (at .inv .3) (goes-on .before .before .if1 .left) (goes-on .before .if2 .left) (goes-on .if4 .left) (at2 .s) (at2 .inv) (passed .loop2-test .left) _ _ _ (until .before .before .sooner3 .ensures) (until .before .sooner4 .ensures) (until .sooner5 .ensures) (chosen .if5 .left) _ (loaded .before .continues .ensures) _ (loaded .load .ensures) _ (counted .before .before .finish .ensures) _ _ (counted .before .sooner6 .ensures) (counted .span .ensures) _ (painted .stretch2 .ensures) (all .if6 .left) _ _ _ (rest .before .span2 .ensures) (rest .minus3 .ensures) (larger .greater .ensures) _ (head .before .before .before .blocks2 .ensures .1) _ (left .without .ensures) _ (c .least2 .ensures)) (going-ends (a .policy) (a .t1) (start .pre .0) (a .requests .now) (a .loadings .now) (a .first) (start .pre .1 .0) (a .end) (start .pre .1 .1) _ (at .slots) (at .s) (at .was) (at .mark) (at .time) (at .inv .3) (goes-on .before .before .if1 .left) (goes-on .before .if2 .left) (goes-on .if4 .left) (at2 .s) (at2 .inv) (passed .loop2-test .left) _ _ _ (until .before .before .sooner3 .ensures) (until .before .sooner4 .ensures) (until .sooner5 .ensures) (chosen .if5 .left) _ (loaded .before .continues .ensures) _ (loaded .load .ensures) _ (counted .before .before .finish .ensures) _ _ (counted .before .sooner6 .ensures) (counted .span .ensures) _ (painted .stretch2 .ensures) (all .if6 .left) _ _ _ (rest .before .span2 .ensures) (rest .minus3 .ensures) (larger .greater .ensures) _ (head .before .before .before .blocks2 .ensures .1) _ (left .without .ensures) _ (c .least2 .ensures) .most)
 
 loop-again-4 : tie.Need-loop-again-4 Inv-loop2 μ-loop2 Inv-loop μ-loop
 loop-again-4 c =
@@ -573,21 +516,7 @@ loop-again-4 c =
     let a = start .args in
     let at = head .loop in
     let at2 = passed .before .loop2 in
-    let on-time = goes-on .before .before .if1 .left in
-    let later = goes-on .before .if2 .left in
-    let more = goes-on .if4 .left in
-    let r = ready (a .policy) (a .t1) (start .pre .0) (a .requests .now) (a .loadings .now) (at .time) (at-most-end (at .inv .0) (start .pre .1 .1)) (at .s) (at .inv .3 .at) (at2 .s) (at2 .inv) (passed .loop2-test .left) in
-    let stop = until .sooner5 .ensures ∙ ap (λ x. min x (until .before .sooner4 .result)) (until .before .before .sooner3 .ensures) ∙ ap (min (min (a .end) (at .mark))) (until .before .sooner4 .ensures) in
-    let some = chosen .if5 .left in
-    let low = row-low (at2 .s .best) in
-    let held = long-enough (r .passed .full .release) low in
-    let its = sym (row-in (a .t1) (start .pre .0) _ (who-first (a .policy) (a .t1) (start .pre .0) (a .requests .now) (a .loadings .now) (at .time) (at-most-end (at .inv .0) (start .pre .1 .1)) (at .s) (at2 .s) r some .0)) in
-    let again = rw (any-default _ _ 0 never held) at (loaded .before .continues .ensures) in
-    let span = counted .span .ensures ∙ ap (λ x. min (x - at .time) 4294967295) (counted .before .sooner6 .ensures) in
-    let held-due = long-enough (r .passed .full .due) low in
-    let took = larger .greater .ensures ∙ ap (max _) (rest .minus3 .ensures ∙ ap (λ x. getD (a .t1 .rows) (at2 .s .best % 16) noRow .period - x) (rw (any-default _ _ 0 never held) at (rest .before .span2 .ensures))) in
-    let soon = rw (any-default _ _ 0 never held-due) at (left .without .ensures) in
-    let g = going-ends (a .policy) (a .t1) (start .pre .0) (a .requests .now) (a .loadings .now) (a .first) (start .pre .1 .0) (a .end) (start .pre .1 .1) _ (at .slots) (at .s) (at .was) (at .mark) (at .time) (at .inv .3) on-time later more (at2 .s) r _ stop some _ its _ again _ (loaded .load .ensures) _ (counted .before .before .finish .ensures) _ span _ (painted .stretch2 .ensures) (all .if6 .left) _ took _ (head .before .before .before .blocks2 .ensures .1) _ soon _ (c .least2 .ensures) in
+    let g = going-ends (a .policy) (a .t1) (start .pre .0) (a .requests .now) (a .loadings .now) (a .first) (start .pre .1 .0) (a .end) (start .pre .1 .1) _ (at .slots) (at .s) (at .was) (at .mark) (at .time) (at .inv .3) (goes-on .before .before .if1 .left) (goes-on .before .if2 .left) (goes-on .if4 .left) (at2 .s) (at2 .inv) (passed .loop2-test .left) _ _ _ (until .before .before .sooner3 .ensures) (until .before .sooner4 .ensures) (until .sooner5 .ensures) (chosen .if5 .left) _ (loaded .before .continues .ensures) _ (loaded .load .ensures) _ (counted .before .before .finish .ensures) _ _ (counted .before .sooner6 .ensures) (counted .span .ensures) _ (painted .stretch2 .ensures) (all .if6 .left) _ _ _ (rest .before .span2 .ensures) (rest .minus3 .ensures) (larger .greater .ensures) _ (head .before .before .before .blocks2 .ensures .1) _ (left .without .ensures) _ (c .least2 .ensures) in
     (g .most, at .inv .1, g .painted .size, g)
 
 pub run-spec : {M : Type 1} → statement M
