@@ -28,7 +28,8 @@ use Rattle.checker.specs.Least.{Least}
 use Rattle.checker.specs.Machine.{live, Sound, systemIn, choices, missAt, nothing, releaseIn, dueIn, needIn, executedIn, worstIn, At}
 use Rattle.checker.proofs.SoundTables.{fine-in, count-top}
 use Rattle.checker.proofs.Minima.{stays-empty}
-use Rattle.checker.proofs.Pass.{nowIn, Ready, tag-parts}
+use Rattle.checker.proofs.Pass.{nowIn}
+use Rattle.checker.proofs.Joins.{Ready, tag-parts}
 use Rattle.checker.proofs.Who.{begun-before, who-none}
 use Rattle.checker.proofs.Leap.{Near, periods, quiet-in, Moved, at-after, seen-on, seen-end}
 

@@ -32,7 +32,8 @@ use Rattle.checker.specs.Machine.{live, Sound, systemIn, choices, missAt
 use Rattle.checker.proofs.SoundTables.{row-in, fine-in, count-top}
 use Rattle.checker.proofs.Minima.{stays-empty, least-part, least-drop}
 use Rattle.checker.proofs.Painted.{painted-none}
-use Rattle.checker.proofs.Pass.{nowIn, Ready, Joining, joining-start, ready}
+use Rattle.checker.proofs.Pass.{nowIn}
+use Rattle.checker.proofs.Joins.{Ready, Joining, joining-start, ready}
 use Rattle.checker.proofs.Who.{begun-before, who-first}
 use Rattle.checker.proofs.Loads.{loads-in, loadings-in}
 use Rattle.checker.proofs.Leap.{Near, quiet-in}

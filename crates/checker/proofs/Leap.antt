@@ -23,7 +23,8 @@ use Rattle.checker.specs.Least.{Least}
 use Rattle.checker.specs.Turns.{taggedOf}
 use Rattle.checker.specs.Machine.{live, Sound, systemIn, choices, stateAt, missAt, releaseIn, dueIn, keyIn, needIn, executedIn, worstIn, Full, Unused, At}
 use Rattle.checker.proofs.SoundTables.{fine-in, count-top}
-use Rattle.checker.proofs.Pass.{nowIn, Ready}
+use Rattle.checker.proofs.Pass.{nowIn}
+use Rattle.checker.proofs.Joins.{Ready}
 use Rattle.checker.proofs.Who.{begun-before, due-is}
 
 -- THE LONGEST RESPONSES, where the run is the schedule

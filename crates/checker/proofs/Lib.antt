@@ -3,6 +3,7 @@ pub mod Begin
 pub mod Bytes
 pub mod Going
 pub mod InHand
+pub mod Joins
 pub mod Leap
 pub mod Loads
 pub mod Minima

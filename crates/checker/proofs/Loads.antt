@@ -29,7 +29,8 @@ use Rattle.checker.specs.declared.turn.ToLoad.{ToLoad}
 use Rattle.checker.specs.Turns.{loadOf}
 use Rattle.checker.specs.Machine.{live, Sound, systemIn, choices, stateAt, nothing, releaseIn, At}
 use Rattle.checker.proofs.SoundTables.{fine-in, count-top}
-use Rattle.checker.proofs.Pass.{until-release, until-go, used-drop, nowIn, Ready, tag-parts}
+use Rattle.checker.proofs.Pass.{until-release, until-go, used-drop, nowIn}
+use Rattle.checker.proofs.Joins.{Ready, tag-parts}
 
 -- one entry of a list, if it is used
 used-first : (zs l : List ℕ) (a : ℕ) (uses b : Bool) → drop a zs ≡ l → uses ≡ b → drop (usedOf uses a (length zs)) zs ≡ drop (one b) l

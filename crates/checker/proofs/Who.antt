@@ -20,7 +20,8 @@ use Rattle.slots.specs.Jobs.{never, keyOf}
 use Rattle.checker.specs.declared.machine.State.{State}
 use Rattle.checker.specs.Machine.{live, Sound, systemIn, choices, dueIn, keyIn}
 use Rattle.checker.proofs.SoundTables.{fine-in, count-top}
-use Rattle.checker.proofs.Pass.{nowIn, Ready, tag-parts}
+use Rattle.checker.proofs.Pass.{nowIn}
+use Rattle.checker.proofs.Joins.{Ready, tag-parts}
 
 -- the code's key is the policy's
 policy-key : (p : ℕ) (w : Row) (n : ℕ) → keyOf p w (n + w .deadline) ≡ policy p w n

@@ -9,7 +9,7 @@ use lib.Dec.{eqb}
 use lib.ListN.{length, length-set}
 use Rattle.slots.specs.Jobs.{workedOf}
 use Rattle.checker.proofs.SoundTables.{count-top, hyper-some, row-in}
-use Rattle.checker.proofs.Pass.{Joining, row-below, joining-turn, joining-less}
+use Rattle.checker.proofs.Joins.{Joining, row-below, joining-turn, joining-less}
 use Rattle.checker.proofs.Going.{Going, going-start, ran-missed, ran-repeats, going-marked, ran-through, joining-now, stop-after, going-idle, going-goes, full-after, going-ends}
 use Rattle.checker.proofs.machine.run.Statement.{statement}
 use Rattle.checker.proofs.machine.run.Tie as tie
