@@ -10,10 +10,7 @@ use lib.ListN.{getD, length, set}
 use lib.Seq.{getD-set-same, getD-set-other}
 use Rattle.rules.specs.declared.Table.{Table}
 use Rattle.rules.specs.Policies.{row}
-use Rattle.rules.specs.AsRun.{one, before}
 use Rattle.basics.specs.Cases.{le-case, eq-case}
-use Rattle.theory.specs.Counters.{until}
-use Rattle.theory.specs.Jump.{now}
 use Rattle.slots.specs.Jobs.{never}
 use Rattle.checker.specs.declared.machine.State.{State}
 use Rattle.checker.specs.declared.join.Joined.{Joined}
