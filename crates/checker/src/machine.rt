@@ -137,6 +137,7 @@ pub fn run(
     let mut mark = first;
     let mut time: u64 = 0;
     loop {
+        // a deadline of a job that is not complete
         if s.soonest == time {
             let m = overdue(rows, &s.due, time);
             return Stop {
@@ -146,6 +147,7 @@ pub fn run(
                 repeats: false,
             };
         }
+        // a mark: is its state that of the mark before?
         if mark == time {
             let e = s.executed;
             let l = s.left;
@@ -174,6 +176,7 @@ pub fn run(
                 repeats: false,
             };
         }
+        // jobs join, the smaller row first
         while s.next / 16 == time {
             let i = (s.next % 16) as usize;
             let r = t.rows[i];
@@ -191,10 +194,12 @@ pub fn run(
             s.asked = slots::used(true, s.asked, requests.len());
             s.next = crate::least::least(blocks, &s.release);
         }
+        // nothing else happens before this time
         let stop = slots::sooner(
             slots::sooner(end, mark),
             slots::sooner(s.next / 16, s.soonest),
         );
+        // every job is complete: idle
         if s.best == slots::NEVER {
             crate::paint::stretch(slots, time as usize, (stop - time) as usize, 0, 0, 0);
             let none = Loading(0);
@@ -203,6 +208,7 @@ pub fn run(
             time = stop;
             continue;
         }
+        // the first job has the slots, as long as nothing happens and it is not complete
         let p = (s.best % 16) as usize;
         let r = t.rows[p];
         let e = s.executed[p];
@@ -222,6 +228,7 @@ pub fn run(
             load.0 as usize,
         );
         s.begun = l.begun;
+        // something happens first: it goes on from here, or is preempted
         if stop < full {
             let x = slots::worked(n, e, slots::minus(d, load.0));
             let y = Loading(slots::minus(load.0, d));
@@ -231,6 +238,7 @@ pub fn run(
             time = stop;
             continue;
         }
+        // it is complete
         let none = Loading(0);
         let took = slots::minus(r.period, slots::span(full, s.release[p] / 16));
         let gone = s.due[p];
