@@ -17,7 +17,7 @@
 #include <string.h>
 #include <time.h>
 
-enum { REPETITIONS = 7, POLICIES = 4 };
+enum { REPETITIONS = 15, POLICIES = 4 };
 
 /* A repetition calls so often that it lasts about this long. */
 static const double repetition_ns = 4e6;
@@ -240,7 +240,11 @@ static void print_heading(void)
            "H", "slots", "events", "checker", "by slot", "by event", "/checkr", "/event", "ev/us");
 }
 
-static void bench(const struct bench_table *table)
+/* The largest time of the checker by that of the event-driven verdict. */
+static double largest_ratio;
+
+/* Returns what a verdict of the checker takes, in ns. */
+static double bench(const struct bench_table *table)
 {
     struct text text;
     struct ref_table read;
@@ -256,9 +260,12 @@ static void bench(const struct bench_table *table)
            table->name, table->count, table->policy, read.hyper_period, reply.number, events,
            ns[OTTER] / slots, ns[REFERENCE] / slots, ns[EVENT] / slots,
            ns[REFERENCE] / ns[OTTER], ns[OTTER] / ns[EVENT], (double)events * 1e3 / ns[OTTER]);
+    if (ns[OTTER] / ns[EVENT] > largest_ratio)
+        largest_ratio = ns[OTTER] / ns[EVENT];
+    return ns[OTTER];
 }
 
-static void bench_stretched(uint32_t factor)
+static double bench_stretched(uint32_t factor)
 {
     char name[40];
     struct ref_row rows[REF_ROWS_MOST];
@@ -268,7 +275,7 @@ static void bench_stretched(uint32_t factor)
         stretch(&rows[i], factor);
     table.rows = rows;
     snprintf(name, sizeof name, "stretched by %" PRIu32, factor);
-    bench(&table);
+    return bench(&table);
 }
 
 /* ---- A keystroke: the four verdicts that the table program prints ---- */
@@ -296,8 +303,14 @@ int main(void)
     print_heading();
     for (size_t i = 0; i < TABLES; i++)
         bench(&tables[i]);
-    for (size_t i = 0; i < sizeof stretch_factors / sizeof stretch_factors[0]; i++)
-        bench_stretched(stretch_factors[i]);
+    double least = 0, most = 0;
+    for (size_t i = 0; i < sizeof stretch_factors / sizeof stretch_factors[0]; i++) {
+        double ns = bench_stretched(stretch_factors[i]);
+        least = i == 0 || ns < least ? ns : least;
+        most = ns > most ? ns : most;
+    }
+    printf("\nchecker / event at most %.2f; a stretched table costs at most %.2f times another\n",
+           largest_ratio, most / least);
     printf("\nfour verdicts, allowance %" PRIu64 ", in microseconds\n", keystroke_allowance);
     printf("%-31s %4s %9s | %12s %12s %12s\n", "table", "rows", "events", "checker", "by slot",
            "by event");
