@@ -24,16 +24,17 @@ use Rattle.theory.specs.Jump.{whose, loads}
 use Rattle.slots.specs.Jobs.{never, continuesOf, workedOf}
 use Rattle.checker.specs.declared.machine.State.{State}
 use Rattle.checker.specs.declared.marks.Mark.{Mark}
+use Rattle.checker.specs.declared.join.Joined.{Joined}
 use Rattle.checker.specs.declared.turn.ToLoad.{ToLoad}
 use Rattle.checker.specs.Least.{Least}
-use Rattle.checker.specs.Turns.{taggedOf, loadOf}
+use Rattle.checker.specs.Turns.{taggedOf, joinedOf, loadOf}
 use Rattle.checker.specs.Paint.{Painted, stretchId, stretchKind}
 use Rattle.checker.specs.Machine.{live, Sound, systemIn, choices, missAt, nothing, releaseIn, needIn, executedIn, worstIn, At, firstDue, Alike, Ran, PaintedRun}
 use Rattle.checker.proofs.SoundTables.{row-in, fine-in, count-top}
 use Rattle.checker.proofs.Minima.{stays-empty, least-part, least-drop}
 use Rattle.checker.proofs.Painted.{painted-none}
-use Rattle.checker.proofs.Pass.{nowIn}
-use Rattle.checker.proofs.Joins.{Ready, Joining, joining-start, ready}
+use Rattle.checker.proofs.Pass.{nowIn, withJoined}
+use Rattle.checker.proofs.Joins.{Ready, Joining, joining-start, row-below, joining-turn, joining-less, ready}
 use Rattle.checker.proofs.Who.{begun-before, who-first}
 use Rattle.checker.proofs.Loads.{loads-in, loadings-in}
 use Rattle.checker.proofs.Leap.{Near, quiet-in}
@@ -83,6 +84,16 @@ pub record Going (p : ℕ) (t : Table) (xs zs : List ℕ) (first end : ℕ) (bef
   pub at : At p t xs zs u s
   pub watched : Watched p t xs zs first mark u was
   pub painted : PaintedRun p t xs zs 0 u before slots
+
+-- within a turn, while jobs join: nothing is missed, no mark and no end is now
+pub record Turning (p : ℕ) (t : Table) (xs zs : List ℕ) (first end : ℕ) (s : State) (was : Mark) (mark u : ℕ) (s₁ : State) : Type 0 where
+  pub most : u ≤ end
+  pub at : At p t xs zs u s
+  pub watched : Watched p t xs zs first mark u was
+  pub on-time : s .soonest ≢ u
+  pub later : mark ≢ u
+  pub more : u ≢ end
+  pub joining : Joining p t xs zs u s s₁
 
 module _ (p : ℕ) (t : Table) (sound : Sound t) (xs zs : List ℕ) (first : ℕ) (kind : (first ≡ never) ⊎ (first ≡ t .omax)) (end : ℕ) (high : end ≤ 281474976710656)
     (before : List ℕ) where
@@ -151,199 +162,240 @@ module _ (p : ℕ) (t : Table) (sound : Sound t) (xs zs : List ℕ) (first : ℕ
           apart = λ z n f i h. none-equal p t xs zs first mark u was (g .watched) below later f i (omega (arith, h, e));
         }
 
-        -- JOBS JOIN, and the slots up to a time v go to whoever is first
-        pub joining-now : Joining p t xs zs u s s
-        joining-now = joining-start p t sound xs zs u low s (g .at) (ahead-of p t sound xs zs u below s (g .at) on-time)
+        -- JOBS JOIN
+        pub turning-start : u ≢ end → Turning p t xs zs first end s was mark u s
+        turning-start more = record {
+          most = g .most;
+          at = g .at;
+          watched = g .watched;
+          on-time = on-time;
+          later = later;
+          more = more;
+          joining = joining-start p t sound xs zs u low s (g .at) (ahead-of p t sound xs zs u below s (g .at) on-time);
+        }
 
-        module _ (more : u ≢ end) (s₁ : State) (all : Joining p t xs zs u s s₁) (none : s₁ .next / 16 ≢ u)
-            (x y stop : ℕ) (x-is : x ≡ min end mark) (y-is : y ≡ min (s₁ .next / 16) (s₁ .soonest)) (stop-is : stop ≡ min x y) where
-          r : Ready p t xs zs u s s₁
-          r = ready p t sound xs zs u low s (g .at) s₁ all none
+  -- A TURN goes on
+  module _ (s : State) (was : Mark) (mark u : ℕ) (s₁ : State) (n : Turning p t xs zs first end s was mark u s₁) where
+    high-up : u ≤ 281474976710656
+    high-up = within (n .most) high
 
-          bounds : (stop ≤ end) × (stop ≤ mark) × (stop ≤ s₁ .next / 16) × (stop ≤ s₁ .soonest)
-          bounds = least-of end mark (s₁ .next / 16) (s₁ .soonest) x y stop x-is y-is stop-is
+    in-time : u < never
+    in-time = omega (arith, high-up)
 
-          pub stop-after : u < stop
-          stop-after = before-all u end mark (s₁ .next / 16) (s₁ .soonest) x y stop x-is y-is stop-is not-end
-              (mark-later p t xs zs first mark u was (g .watched) below kind later) (r .later) (r .passed .ahead)
-            where
-              not-end : u < end
-              not-end = le-case end u (λ h. absurd (more (neither (g .most) h))) (λ h. h)
+    clear-now : missAt p t xs zs u ≡ 0
+    clear-now = none-missed p t sound xs zs u in-time s (n .at) (n .on-time)
 
-          near : (v : ℕ) → u < v → v ≤ stop → Near u v s₁
-          near v a b = record { after = a; next = within b (bounds .2); soonest = within b (bounds .3) }
+    -- a job joins
+    module _ (now : s₁ .next / 16 ≡ u) (ask : ℕ) (ask-is : ask ≡ getD xs (s₁ .asked) (getD (t .rows) (s₁ .next % 16) noRow .wcet))
+        (j : Joined) (j-is : j ≡ joinedOf p (getD (t .rows) (s₁ .next % 16) noRow) (s₁ .next % 16) u ask)
+        (blocks : ℕ) (enough : t .count ≤ 4 * blocks) (next : ℕ) (least : Least (4 * blocks) (set (s₁ .release) (s₁ .next % 16) (j .release)) next) where
+      new : j ≡ joinedOf p (row (live t) (s₁ .next % 16)) (s₁ .next % 16) u (getD xs (s₁ .asked) (row (live t) (s₁ .next % 16) .wcet))
+      new = rw (ask-is, ← row-in t sound (s₁ .next % 16) (row-below p t sound xs zs u high-up s (n .at) s₁ (n .joining) now)) at j-is
 
-          going-on : (v : ℕ) → v ≤ stop → (s′ : State) → At p t xs zs v s′ → (slots′ : List ℕ) → PaintedRun p t xs zs 0 v before slots′ → Going p t xs zs first end before slots′ s′ was mark v
-          going-on v h s′ a slots′ b = record {
-            most = within h (bounds .0);
-            at = a;
-            watched = watched-on p t xs zs first mark u was (g .watched) below v (within h (bounds .1));
-            painted = b;
-          }
+      pub turning-joins : Turning p t xs zs first end s was mark u (withJoined s₁ (s₁ .next % 16) j (length xs) next)
+      turning-joins = record {
+        most = n .most;
+        at = n .at;
+        watched = n .watched;
+        on-time = n .on-time;
+        later = n .later;
+        more = n .more;
+        joining = joining-turn p t sound xs zs u high-up s (n .at) s₁ (n .joining) now j new blocks enough next least;
+      }
 
-          -- nobody has them
-          pub going-idle : s₁ .best ≡ never → (slots′ : List ℕ) → Painted (stretchId 0 0) (stretchKind u 0 0) u (u + (stop - u)) slots slots′
-              → Going p t xs zs first end before slots′ (idleState s₁) was mark stop
-          going-idle none slots′ b =
-              let n = near stop stop-after (at-most stop) in
-              going-on stop (at-most stop) (idleState s₁) (idle-at p t sound xs zs u low s (g .at) clear s₁ r stop n none) slots′
-              (painted-on p t sound xs zs u stop stop-after (quiet-in p t sound xs zs u low s (g .at) s₁ r stop n) (idle-busy p t sound xs zs u low s (g .at) clear s₁ r stop n none)
-              0 (sym (nobody p t sound xs zs u low s (g .at) clear s₁ r stop n none)) 0 (sym (no-load p t sound xs zs u low s (g .at) clear s₁ r stop n none))
-              0 (λ i e. absurd (apart i e)) (stop - u) (back-on u stop stop-after) (g .painted) b)
-            where
-              apart : (i : ℕ) → _≢_ {A = ℕ} 0 (suc i)
-              apart i e = omega arith
+      pub turning-less : s₁ .next < next
+      turning-less = joining-less p t sound xs zs u high-up s (n .at) s₁ (n .joining) now j new blocks enough next least
 
-          -- task i has them
-          module _ (some : s₁ .best ≢ never) (again : Bool)
-              (on : again ≡ continuesOf (s₁ .last) (s₁ .best % 16 + 1) (getD (s₁ .release) (s₁ .best % 16) 0 / 16) (u + getD (t .rows) (s₁ .best % 16) noRow .period))
-              (l : ToLoad) (load : l ≡ loadOf (getD (t .rows) (s₁ .best % 16) noRow) (getD (s₁ .executed) (s₁ .best % 16) nothing) again (s₁ .left) (s₁ .begun) zs)
-              (full : ℕ) (fills : full ≡ u + l .slots .0 + (needIn s₁ (s₁ .best % 16) - executedIn s₁ (s₁ .best % 16)))
-              (ends d : ℕ) (ends-is : ends ≡ min stop full) (d-is : d ≡ min (ends - u) 4294967295) where
-            abbrev i : ℕ
-            i = s₁ .best % 16
+    -- all have joined: the slots up to a time v go to whoever is first
+    module _ (none : s₁ .next / 16 ≢ u) (slots : List ℕ) (painted : PaintedRun p t xs zs 0 u before slots)
+        (x y stop : ℕ) (x-is : x ≡ min end mark) (y-is : y ≡ min (s₁ .next / 16) (s₁ .soonest)) (stop-is : stop ≡ min x y) where
+      r : Ready p t xs zs u s s₁
+      r = ready p t sound xs zs u high-up s (n .at) s₁ (n .joining) none
 
-            abbrev w : Row
-            w = getD (t .rows) i noRow
+      bounds : (stop ≤ end) × (stop ≤ mark) × (stop ≤ s₁ .next / 16) × (stop ≤ s₁ .soonest)
+      bounds = least-of end mark (s₁ .next / 16) (s₁ .soonest) x y stop x-is y-is stop-is
 
-            span : d ≡ min (min stop full - u) 4294967295
-            span = rw ends-is at d-is
+      pub stop-after : u < stop
+      stop-after = before-all u end mark (s₁ .next / 16) (s₁ .soonest) x y stop x-is y-is stop-is not-end
+          (mark-later p t xs zs first mark u was (n .watched) in-time kind (n .later)) (r .later) (r .passed .ahead)
+        where
+          not-end : u < end
+          not-end = le-case end u (λ h. absurd (n .more (neither (n .most) h))) (λ h. h)
 
-            has : (i < t .count) × (whose (systemIn p t) (choices p t xs zs) u ≡ suc i) × (complete (nowIn p t xs zs u) i ≡ false)
-            has = who-first p t sound xs zs u low s s₁ r some
+      near : (v : ℕ) → u < v → v ≤ stop → Near u v s₁
+      near v a b = record { after = a; next = within b (bounds .2); soonest = within b (bounds .3) }
 
-            pub task-low : i < 16
-            task-low = omega (arith, has .0, count-top t sound)
+      going-on : (v : ℕ) → v ≤ stop → (s′ : State) → At p t xs zs v s′ → (slots′ : List ℕ) → PaintedRun p t xs zs 0 v before slots′ → Going p t xs zs first end before slots′ s′ was mark v
+      going-on v h s′ a slots′ b = record {
+        most = within h (bounds .0);
+        at = a;
+        watched = watched-on p t xs zs first mark u was (n .watched) in-time v (within h (bounds .1));
+        painted = b;
+      }
 
-            its : w ≡ row (live t) i
-            its = sym (row-in t sound i (has .0))
+      -- nobody has them
+      pub going-idle : s₁ .best ≡ never → (slots′ : List ℕ) → Painted (stretchId 0 0) (stretchKind u 0 0) u (u + (stop - u)) slots slots′
+          → Going p t xs zs first end before slots′ (idleState s₁) was mark stop
+      going-idle idle slots′ b =
+          let nr = near stop stop-after (at-most stop) in
+          going-on stop (at-most stop) (idleState s₁) (idle-at p t sound xs zs u high-up s (n .at) clear-now s₁ r stop nr idle) slots′
+          (painted-on p t sound xs zs u stop stop-after (quiet-in p t sound xs zs u high-up s (n .at) s₁ r stop nr) (idle-busy p t sound xs zs u high-up s (n .at) clear-now s₁ r stop nr idle)
+          0 (sym (nobody p t sound xs zs u high-up s (n .at) clear-now s₁ r stop nr idle)) 0 (sym (no-load p t sound xs zs u high-up s (n .at) clear-now s₁ r stop nr idle))
+          0 (λ i e. absurd (apart i e)) (stop - u) (back-on u stop stop-after) painted b)
+        where
+          apart : (i : ℕ) → _≢_ {A = ℕ} 0 (suc i)
+          apart i e = omega arith
 
-            in-release : i < length (s₁ .release)
-            in-release = rw (r .passed .full .release) task-low
+      -- task i has them
+      module _ (some : s₁ .best ≢ never) (again : Bool)
+          (on : again ≡ continuesOf (s₁ .last) (s₁ .best % 16 + 1) (getD (s₁ .release) (s₁ .best % 16) 0 / 16) (u + getD (t .rows) (s₁ .best % 16) noRow .period))
+          (l : ToLoad) (load : l ≡ loadOf (getD (t .rows) (s₁ .best % 16) noRow) (getD (s₁ .executed) (s₁ .best % 16) nothing) again (s₁ .left) (s₁ .begun) zs)
+          (full : ℕ) (fills : full ≡ u + l .slots .0 + (needIn s₁ (s₁ .best % 16) - executedIn s₁ (s₁ .best % 16)))
+          (ends d : ℕ) (ends-is : ends ≡ min stop full) (d-is : d ≡ min (ends - u) 4294967295) where
+        abbrev i : ℕ
+        i = s₁ .best % 16
 
-            -- what the code reads is what the state says
-            read-release : getD (s₁ .release) i 0 ≡ releaseIn s₁ i
-            read-release = any-default (s₁ .release) i 0 never in-release
+        abbrev w : Row
+        w = getD (t .rows) i noRow
 
-            on-is : again ≡ continuesOf (s₁ .last) (suc i) (releaseIn s₁ i / 16) (u + row (live t) i .period)
-            on-is = rw (add-one i, read-release, its) at on
+        span : d ≡ min (min stop full - u) 4294967295
+        span = rw ends-is at d-is
 
-            to-load : l .slots .0 ≡ loads (systemIn p t) (choices p t xs zs) u
-            to-load = loads-in p t sound xs zs u s (g .at) s₁ r i (has .0) (has .1) again on-is l (rw its at load)
+        has : (i < t .count) × (whose (systemIn p t) (choices p t xs zs) u ≡ suc i) × (complete (nowIn p t xs zs u) i ≡ false)
+        has = who-first p t sound xs zs u high-up s s₁ r some
 
-            -- not further than 32 bits count
-            in-span : (v : ℕ) → v ≤ stop → v - u ≤ 4294967295
-            in-span v h =
-                let f = fine-in t sound i (has .0) in
-                let c = counts (row (live t) i) (omega (arith, f .wcet-low, f .wcet-deadline, f .deadline-period)) (suc u) .soon (omega (arith, begun-before p t sound xs zs u low s s₁ r i (has .0) (has .2))) in
-                near-span u v (s₁ .next) (releaseIn s₁ i) (until (row (live t) i) (suc u)) i (within h (bounds .2)) (r .next .low i (has .0)) (r .passed .joined i (has .0) .release) task-low (below-all c (f .period-high))
+        pub task-low : i < 16
+        task-low = omega (arith, has .0, count-top t sound)
+
+        its : w ≡ row (live t) i
+        its = sym (row-in t sound i (has .0))
+
+        in-release : i < length (s₁ .release)
+        in-release = rw (r .passed .full .release) task-low
+
+        -- what the code reads is what the state says
+        read-release : getD (s₁ .release) i 0 ≡ releaseIn s₁ i
+        read-release = any-default (s₁ .release) i 0 never in-release
+
+        on-is : again ≡ continuesOf (s₁ .last) (suc i) (releaseIn s₁ i / 16) (u + row (live t) i .period)
+        on-is = rw (add-one i, read-release, its) at on
+
+        to-load : l .slots .0 ≡ loads (systemIn p t) (choices p t xs zs) u
+        to-load = loads-in p t sound xs zs u s (n .at) s₁ r i (has .0) (has .1) again on-is l (rw its at load)
+
+        -- not further than 32 bits count
+        in-span : (v : ℕ) → v ≤ stop → v - u ≤ 4294967295
+        in-span v h =
+            let f = fine-in t sound i (has .0) in
+            let c = counts (row (live t) i) (omega (arith, f .wcet-low, f .wcet-deadline, f .deadline-period)) (suc u) .soon (omega (arith, begun-before p t sound xs zs u high-up s s₁ r i (has .0) (has .2))) in
+            near-span u v (s₁ .next) (releaseIn s₁ i) (until (row (live t) i) (suc u)) i (within h (bounds .2)) (r .next .low i (has .0)) (r .passed .joined i (has .0) .release) task-low (below-all c (f .period-high))
+          where
+            below-all : {b c : ℕ} → b < c → c ≤ 10000 → b < 10000
+            below-all h k = omega arith
+
+        free : 0 < needIn s₁ i - executedIn s₁ i
+        free =
+            let j = r .passed .joined i (has .0) in
+            left-over (needIn s₁ i) (executedIn s₁ i) (rw (← j .need, ← j .executed) at (leb-false (nowIn p t xs zs u .need i) (nowIn p t xs zs u .executed i) (has .2)))
+          where
+            left-over : (n e : ℕ) → e < n → 0 < n - e
+            left-over n e h = omega arith
+
+        -- the loading of the code is the run's
+        full-is : full ≡ u + loads (systemIn p t) (choices p t xs zs) u + (needIn s₁ i - executedIn s₁ i)
+        full-is = fills ∙ ap (λ x. u + x + (needIn s₁ i - executedIn s₁ i)) to-load
+
+        its-id : (j : ℕ) → i + 1 ≡ suc j → (j < t .count) × (w .id ≡ row (live t) j .id)
+        its-id j e =
+            let k : i ≡ j = same-place i j e in
+            rw (← k) (has .0, ap (λ (x : Row). x .id) its)
+          where
+            same-place : (a b : ℕ) → a + 1 ≡ suc b → a ≡ b
+            same-place a b q = omega arith
+
+        loadings : drop (l .begun) zs
+            ≡ drop (one (begins (systemIn p t) (nowIn p t xs zs u) (whose (systemIn p t) (choices p t xs zs) u))) (asRun (systemIn p t) xs zs u .loadings)
+        loadings = loadings-in p t sound xs zs u s (n .at) s₁ r i (has .0) (has .1) again on-is l (rw its at load)
+
+        module _ (slots′ : List ℕ) (b : Painted (stretchId (i + 1) (w .id)) (stretchKind u (i + 1) (l .slots .0)) u (u + d) slots slots′) where
+          -- it goes on after them
+          module _ (less : stop < full) (e : Executed) (e-is : e ≡ workedOf (getD (s₁ .need) i nothing) (getD (s₁ .executed) i nothing) (d - l .slots .0))
+              (lo : Loading) (lo-is : lo .0 ≡ l .slots .0 - d) where
+            d-stop : d ≡ stop - u
+            d-stop = span-stop u stop full d span less (in-span stop (at-most stop))
+
+            n-stop : Near u stop s₁
+            n-stop = near stop stop-after (at-most stop)
+
+            more-left : stop - u - l .slots .0 < needIn s₁ i - executedIn s₁ i
+            more-left = some-left u stop (l .slots .0) (needIn s₁ i - executedIn s₁ i) (rw fills at less) free
+
+            e-count : e .0 ≡ executedIn s₁ i + (stop - u - loads (systemIn p t) (choices p t xs zs) u)
+            e-count = ap (λ (n : Executed). n .0) (rw (d-stop, lt-ltb (stop - u - l .slots .0) (needIn s₁ i - executedIn s₁ i) more-left) at e-is)
+                ∙ ap (λ n. executedIn s₁ i + (stop - u - n)) to-load
+
+            less-is : stop < u + loads (systemIn p t) (choices p t xs zs) u + (needIn s₁ i - executedIn s₁ i)
+            less-is = rw full-is at less
+
+            room : stop ≤ u + loads (systemIn p t) (choices p t xs zs) u + (needIn s₁ i - executedIn s₁ i)
+            room = weaker less-is
               where
-                below-all : {b c : ℕ} → b < c → c ≤ 10000 → b < 10000
-                below-all h k = omega arith
+                weaker : {m n : ℕ} → m < n → m ≤ n
+                weaker h = omega arith
 
-            free : 0 < needIn s₁ i - executedIn s₁ i
-            free =
-                let j = r .passed .joined i (has .0) in
-                left-over (needIn s₁ i) (executedIn s₁ i) (rw (← j .need, ← j .executed) at (leb-false (nowIn p t xs zs u .need i) (nowIn p t xs zs u .executed i) (has .2)))
+            pub going-goes : Going p t xs zs first end before slots′ (goesState s₁ i e lo (l .begun)) was mark stop
+            going-goes = going-on stop (at-most stop) (goesState s₁ i e lo (l .begun))
+                (goes-at p t sound xs zs u high-up s (n .at) clear-now s₁ r stop n-stop i (has .0) (has .1) (has .2) (l .begun) loadings room less-is e e-count lo
+                (lo-is ∙ ap (λ n. l .slots .0 - n) d-stop ∙ ap (λ n. n - (stop - u)) to-load)) slots′
+                (painted-on p t sound xs zs u stop stop-after (quiet-in p t sound xs zs u high-up s (n .at) s₁ r stop n-stop)
+                (task-busy p t sound xs zs u high-up s (n .at) clear-now s₁ r stop n-stop i (has .0) (has .1) (has .2) (l .begun) loadings room)
+                (i + 1) (add-one i ∙ sym (has .1)) (l .slots .0) to-load (w .id) its-id d (ap (λ n. u + n) d-stop ∙ back-on u stop stop-after) painted b)
+
+          -- its job is complete with them
+          module _ (fits : full ≤ stop) (rest took worst : ℕ) (rest-is : rest ≡ min (getD (s₁ .release) i 0 / 16 - full) 4294967295) (took-is : took ≡ w .period - rest)
+              (worst-is : worst ≡ max (worstIn s₁ i) took) (blocks : ℕ) (enough : t .count ≤ 4 * blocks)
+              (soonest : ℕ) (soon : (getD (s₁ .due) i 0 ≡ s₁ .soonest → Least (4 * blocks) (set (s₁ .due) i never) soonest)
+              × (getD (s₁ .due) i 0 ≢ s₁ .soonest → soonest ≡ s₁ .soonest))
+              (best : ℕ) (next-best : Least (4 * blocks) (set (s₁ .key) i never) best) where
+            pub full-after : u < full
+            full-after = rw fills (beyond u (l .slots .0) (needIn s₁ i - executedIn s₁ i) free)
               where
-                left-over : (n e : ℕ) → e < n → 0 < n - e
-                left-over n e h = omega arith
+                beyond : (a c e : ℕ) → 0 < e → a < a + c + e
+                beyond a c e h = omega arith
 
-            -- the loading of the code is the run's
-            full-is : full ≡ u + loads (systemIn p t) (choices p t xs zs) u + (needIn s₁ i - executedIn s₁ i)
-            full-is = fills ∙ ap (λ x. u + x + (needIn s₁ i - executedIn s₁ i)) to-load
+            d-full : d ≡ full - u
+            d-full = span-full u stop full d span fits (in-span full fits)
 
-            its-id : (j : ℕ) → i + 1 ≡ suc j → (j < t .count) × (w .id ≡ row (live t) j .id)
-            its-id j e =
-                let k : i ≡ j = same-place i j e in
-                rw (← k) (has .0, ap (λ (x : Row). x .id) its)
-              where
-                same-place : (a b : ℕ) → a + 1 ≡ suc b → a ≡ b
-                same-place a b q = omega arith
+            n-full : Near u full s₁
+            n-full = near full full-after fits
 
-            loadings : drop (l .begun) zs
-                ≡ drop (one (begins (systemIn p t) (nowIn p t xs zs u) (whose (systemIn p t) (choices p t xs zs) u))) (asRun (systemIn p t) xs zs u .loadings)
-            loadings = loadings-in p t sound xs zs u s (g .at) s₁ r i (has .0) (has .1) again on-is l (rw its at load)
+            in-due : i < length (s₁ .due)
+            in-due = rw (r .passed .full .due) task-low
 
-            module _ (slots′ : List ℕ) (b : Painted (stretchId (i + 1) (w .id)) (stretchKind u (i + 1) (l .slots .0)) u (u + d) slots slots′) where
-              -- it goes on after them
-              module _ (less : stop < full) (e : Executed) (e-is : e ≡ workedOf (getD (s₁ .need) i nothing) (getD (s₁ .executed) i nothing) (d - l .slots .0))
-                  (lo : Loading) (lo-is : lo .0 ≡ l .slots .0 - d) where
-                d-stop : d ≡ stop - u
-                d-stop = span-stop u stop full d span less (in-span stop (at-most stop))
+            in-key : i < length (s₁ .key)
+            in-key = rw (r .passed .full .key) task-low
 
-                n-stop : Near u stop s₁
-                n-stop = near stop stop-after (at-most stop)
+            read-due : getD (s₁ .due) i 0 ≡ getD (s₁ .due) i never
+            read-due = any-default (s₁ .due) i 0 never in-due
 
-                more-left : stop - u - l .slots .0 < needIn s₁ i - executedIn s₁ i
-                more-left = some-left u stop (l .slots .0) (needIn s₁ i - executedIn s₁ i) (rw fills at less) free
+            response : worst ≡ max (worstIn s₁ i) (row (live t) i .period - min (releaseIn s₁ i / 16 - full) 4294967295)
+            response = rw (took-is, rest-is, read-release, its) at worst-is
 
-                e-count : e .0 ≡ executedIn s₁ i + (stop - u - loads (systemIn p t) (choices p t xs zs) u)
-                e-count = ap (λ (n : Executed). n .0) (rw (d-stop, lt-ltb (stop - u - l .slots .0) (needIn s₁ i - executedIn s₁ i) more-left) at e-is)
-                    ∙ ap (λ n. executedIn s₁ i + (stop - u - n)) to-load
+            soonest-is : Least (t .count) (set (s₁ .due) i never) soonest
+            soonest-is = eq-case (getD (s₁ .due) i never) (s₁ .soonest)
+                (λ e. least-part (t .count) (4 * blocks) (set (s₁ .due) i never) soonest enough (λ k h. stays-empty (s₁ .due) i k in-due (r .rest k h .due)) (soon .0 (read-due ∙ e)))
+                (λ e. rw (soon .1 (λ z. e (sym read-due ∙ z))) (least-drop (t .count) (s₁ .due) (s₁ .soonest) i in-due (r .passed .soonest) e))
 
-                less-is : stop < u + loads (systemIn p t) (choices p t xs zs) u + (needIn s₁ i - executedIn s₁ i)
-                less-is = rw full-is at less
+            best-is : Least (t .count) (set (s₁ .key) i never) best
+            best-is = least-part (t .count) (4 * blocks) (set (s₁ .key) i never) best enough (λ k h. stays-empty (s₁ .key) i k in-key (r .rest k h .key)) next-best
 
-                room : stop ≤ u + loads (systemIn p t) (choices p t xs zs) u + (needIn s₁ i - executedIn s₁ i)
-                room = weaker less-is
-                  where
-                    weaker : {m n : ℕ} → m < n → m ≤ n
-                    weaker h = omega arith
+            room-full : full ≤ u + loads (systemIn p t) (choices p t xs zs) u + (needIn s₁ i - executedIn s₁ i)
+            room-full = rw (← full-is) (at-most full)
 
-                pub going-goes : Going p t xs zs first end before slots′ (goesState s₁ i e lo (l .begun)) was mark stop
-                going-goes = going-on stop (at-most stop) (goesState s₁ i e lo (l .begun))
-                    (goes-at p t sound xs zs u low s (g .at) clear s₁ r stop n-stop i (has .0) (has .1) (has .2) (l .begun) loadings room less-is e e-count lo
-                    (lo-is ∙ ap (λ n. l .slots .0 - n) d-stop ∙ ap (λ n. n - (stop - u)) to-load)) slots′
-                    (painted-on p t sound xs zs u stop stop-after (quiet-in p t sound xs zs u low s (g .at) s₁ r stop n-stop)
-                    (task-busy p t sound xs zs u low s (g .at) clear s₁ r stop n-stop i (has .0) (has .1) (has .2) (l .begun) loadings room)
-                    (i + 1) (add-one i ∙ sym (has .1)) (l .slots .0) to-load (w .id) its-id d (ap (λ n. u + n) d-stop ∙ back-on u stop stop-after) (g .painted) b)
-
-              -- its job is complete with them
-              module _ (fits : full ≤ stop) (rest took worst : ℕ) (rest-is : rest ≡ min (getD (s₁ .release) i 0 / 16 - full) 4294967295) (took-is : took ≡ w .period - rest)
-                  (worst-is : worst ≡ max (worstIn s₁ i) took) (blocks : ℕ) (enough : t .count ≤ 4 * blocks)
-                  (soonest : ℕ) (soon : (getD (s₁ .due) i 0 ≡ s₁ .soonest → Least (4 * blocks) (set (s₁ .due) i never) soonest)
-                  × (getD (s₁ .due) i 0 ≢ s₁ .soonest → soonest ≡ s₁ .soonest))
-                  (best : ℕ) (next-best : Least (4 * blocks) (set (s₁ .key) i never) best) where
-                pub full-after : u < full
-                full-after = rw fills (beyond u (l .slots .0) (needIn s₁ i - executedIn s₁ i) free)
-                  where
-                    beyond : (a c e : ℕ) → 0 < e → a < a + c + e
-                    beyond a c e h = omega arith
-
-                d-full : d ≡ full - u
-                d-full = span-full u stop full d span fits (in-span full fits)
-
-                n-full : Near u full s₁
-                n-full = near full full-after fits
-
-                in-due : i < length (s₁ .due)
-                in-due = rw (r .passed .full .due) task-low
-
-                in-key : i < length (s₁ .key)
-                in-key = rw (r .passed .full .key) task-low
-
-                read-due : getD (s₁ .due) i 0 ≡ getD (s₁ .due) i never
-                read-due = any-default (s₁ .due) i 0 never in-due
-
-                response : worst ≡ max (worstIn s₁ i) (row (live t) i .period - min (releaseIn s₁ i / 16 - full) 4294967295)
-                response = rw (took-is, rest-is, read-release, its) at worst-is
-
-                soonest-is : Least (t .count) (set (s₁ .due) i never) soonest
-                soonest-is = eq-case (getD (s₁ .due) i never) (s₁ .soonest)
-                    (λ e. least-part (t .count) (4 * blocks) (set (s₁ .due) i never) soonest enough (λ k h. stays-empty (s₁ .due) i k in-due (r .rest k h .due)) (soon .0 (read-due ∙ e)))
-                    (λ e. rw (soon .1 (λ z. e (sym read-due ∙ z))) (least-drop (t .count) (s₁ .due) (s₁ .soonest) i in-due (r .passed .soonest) e))
-
-                best-is : Least (t .count) (set (s₁ .key) i never) best
-                best-is = least-part (t .count) (4 * blocks) (set (s₁ .key) i never) best enough (λ k h. stays-empty (s₁ .key) i k in-key (r .rest k h .key)) next-best
-
-                room-full : full ≤ u + loads (systemIn p t) (choices p t xs zs) u + (needIn s₁ i - executedIn s₁ i)
-                room-full = rw (← full-is) (at-most full)
-
-                pub going-ends : Going p t xs zs first end before slots′ (endsState s₁ i worst soonest best (l .begun)) was mark full
-                going-ends = going-on full fits (endsState s₁ i worst soonest best (l .begun))
-                    (ends-at p t sound xs zs u low s (g .at) clear s₁ r full n-full i (has .0) (has .1) (has .2) (l .begun) loadings room-full full-is worst response
-                    soonest soonest-is best best-is) slots′
-                    (painted-on p t sound xs zs u full full-after (quiet-in p t sound xs zs u low s (g .at) s₁ r full n-full)
-                    (task-busy p t sound xs zs u low s (g .at) clear s₁ r full n-full i (has .0) (has .1) (has .2) (l .begun) loadings room-full)
-                    (i + 1) (add-one i ∙ sym (has .1)) (l .slots .0) to-load (w .id) its-id d (ap (λ n. u + n) d-full ∙ back-on u full full-after) (g .painted) b)
+            pub going-ends : Going p t xs zs first end before slots′ (endsState s₁ i worst soonest best (l .begun)) was mark full
+            going-ends = going-on full fits (endsState s₁ i worst soonest best (l .begun))
+                (ends-at p t sound xs zs u high-up s (n .at) clear-now s₁ r full n-full i (has .0) (has .1) (has .2) (l .begun) loadings room-full full-is worst response
+                soonest soonest-is best best-is) slots′
+                (painted-on p t sound xs zs u full full-after (quiet-in p t sound xs zs u high-up s (n .at) s₁ r full n-full)
+                (task-busy p t sound xs zs u high-up s (n .at) clear-now s₁ r full n-full i (has .0) (has .1) (has .2) (l .begun) loadings room-full)
+                (i + 1) (add-one i ∙ sym (has .1)) (l .slots .0) to-load (w .id) its-id d (ap (λ n. u + n) d-full ∙ back-on u full full-after) painted b)

@@ -1,6 +1,7 @@
--- The loop over events: `Going` holds at its head, and `Joining` while jobs join. Each way through a turn is a law of `Going`.
+-- The loop over events: `Going` holds at its head, and `Turning` while jobs join. Each way through a turn is a law of `Going`.
 use mathlib.Core.Path.{_≡_, refl, ap, _∙_}
 use mathlib.Core.Bool.{Bool, true, false, cond}
+use mathlib.Core.List.{[]}
 use Prim.Native.Nat.{ℕ, _+_, _-_, _*_, _/_, _%_, _≤_, _<_}
 use native.Mathlib.Omega.{arith}
 use borrow.Author.Needs.{needs}
@@ -8,9 +9,8 @@ use borrow.Author.Tests.{eq-eqb, ne-eqb}
 use lib.Dec.{eqb}
 use lib.ListN.{length, length-set}
 use Rattle.slots.specs.Jobs.{workedOf}
-use Rattle.checker.proofs.SoundTables.{count-top, hyper-some, row-in}
-use Rattle.checker.proofs.Joins.{Joining, row-below, joining-turn, joining-less}
-use Rattle.checker.proofs.Going.{Going, going-start, ran-missed, ran-repeats, going-marked, ran-through, joining-now, stop-after, going-idle, going-goes, full-after, going-ends}
+use Rattle.checker.proofs.SoundTables.{count-top, hyper-some}
+use Rattle.checker.proofs.Going.{Going, going-start, ran-missed, ran-repeats, going-marked, ran-through, Turning, turning-start, turning-joins, turning-less, stop-after, going-idle, going-goes, full-after, going-ends}
 use Rattle.checker.proofs.machine.run.Statement.{statement}
 use Rattle.checker.proofs.machine.run.Tie as tie
 
@@ -41,7 +41,7 @@ at-most-end : {u end : ℕ} → u ≤ end → end ≤ 281474976710656 → u ≤ 
 at-most-end h k = omega arith
 
 abbrev Inv-loop2 : tie.InvT-loop2
-Inv-loop2 policy first end requests loadings slots t rows blocks hyper s₀ was mark time s = Joining policy t requests loadings time s₀ s
+Inv-loop2 policy first end requests loadings slots t rows blocks hyper s₀ was mark time s = Turning policy t requests loadings first end s₀ was mark time s
 
 abbrev μ-loop2 : tie.MeasureT-loop2
 μ-loop2 policy first end requests loadings slots t rows blocks hyper s₀ was mark time s = (time + 1) * 16 - s .next
@@ -140,7 +140,7 @@ loop2-holds c =
     let start = head .before .before .before .before .before .before .before in
     let a = start .args in
     let at = head .loop in
-    joining-now (a .policy) (a .t1) (start .pre .0) (a .requests .now) (a .loadings .now) (a .first) (start .pre .1 .0) (a .end) (start .pre .1 .1) _ (at .slots) (at .s) (at .was) (at .mark) (at .time) (at .inv .3) (c .before .before .if1 .left) (c .before .if2 .left)
+    turning-start (a .policy) (a .t1) (start .pre .0) (a .requests .now) (a .loadings .now) (a .first) (start .pre .1 .0) (a .end) (start .pre .1 .1) _ (at .slots) (at .s) (at .was) (at .mark) (at .time) (at .inv .3) (c .before .before .if1 .left) (c .before .if2 .left) (c .if4 .left)
 
 mul-r : tie.Need-mul-r Inv-loop2 μ-loop2 Inv-loop μ-loop
 mul-r c = search needs
@@ -152,10 +152,7 @@ entry-requires : tie.Need-entry-requires Inv-loop2 μ-loop2 Inv-loop μ-loop
 entry-requires c κs = search needs
 
 join-requires : tie.Need-join-requires Inv-loop2 μ-loop2 Inv-loop μ-loop
-join-requires c κs =
-    let at = c .before .before .before .before .before .before .before .loop in
-    let start = c .before .before .before .before .before .before .before .before .before .before .before .before .before .before in
-    (row-low _, at-most-end (at .inv .0) (start .pre .1 .1))
+join-requires c κs = (row-low _, at-most-end (c .before .before .before .before .before .before .before .loop .inv .0) (c .before .before .before .before .before .before .before .before .before .before .before .before .before .before .pre .1 .1))
 
 mul-n : tie.Need-mul-n Inv-loop2 μ-loop2 Inv-loop μ-loop
 mul-n c = search needs
@@ -200,41 +197,25 @@ least-requires : tie.Need-least-requires Inv-loop2 μ-loop2 Inv-loop μ-loop
 least-requires c κs =
     let passing = c .before .before .before .before .before .before .before .before .before .before in
     let blocks = passing .before .before .before .before .before .before .before in
-    (blocks .blocks2 .ensures .0, simp length-set (passing .loop2 .inv .passing .full .release))
+    (blocks .blocks2 .ensures .0, simp length-set (passing .loop2 .inv .joining .passing .full .release))
 
 loop2-less : tie.Need-loop2-less Inv-loop2 μ-loop2 Inv-loop μ-loop
 loop2-less c =
     let job = c .before .before .before .before .before .before .before in
-    let asked = job .before in
-    let inside = asked .before .before in
-    let passing = inside .before in
-    let head = passing .before .before .before .before in
-    let start = head .before .before .before .before .before .before .before in
+    let inside = job .before .before .before in
+    let blocks = inside .before .before .before .before .before .before .before .before in
+    let start = blocks .before .before .before .before in
     let a = start .args in
-    let at = head .loop in
-    let blocks = head .before .before .before in
-    let at2 = passing .loop2 in
-    let now = inside .loop2-test .taken in
-    let below = row-below (a .policy) (a .t1) (start .pre .0) (a .requests .now) (a .loadings .now) (at .time) (at-most-end (at .inv .0) (start .pre .1 .1)) (at .s) (at .inv .3 .at) (at2 .s) (at2 .inv) now in
-    let new = rw (asked .entry .ensures, ← row-in (a .t1) (start .pre .0) (at2 .s .next % 16) below) at (job .join .ensures) in
-    measure-joins (at .time) (at2 .s .next) (c .least .result) now (joining-less (a .policy) (a .t1) (start .pre .0) (a .requests .now) (a .loadings .now) (at .time) (at-most-end (at .inv .0) (start .pre .1 .1)) (at .s) (at .inv .3 .at) (at2 .s) (at2 .inv) now _ new (blocks .blocks2 .result) (blocks .blocks2 .ensures .1) _ (c .least .ensures))
+    measure-joins _ _ _ (inside .loop2-test .taken) (turning-less (a .policy) (a .t1) (start .pre .0) (a .requests .now) (a .loadings .now) (a .first) (start .pre .1 .0) (a .end) (start .pre .1 .1) [] _ _ _ _ _ (inside .before .loop2 .inv) (inside .loop2-test .taken) _ (job .before .entry .ensures) _ (job .join .ensures) _ (blocks .blocks2 .ensures .1) _ (c .least .ensures))
 
 loop2-again : tie.Need-loop2-again Inv-loop2 μ-loop2 Inv-loop μ-loop
 loop2-again c =
     let job = c .before .before .before .before .before .before .before in
-    let asked = job .before in
-    let inside = asked .before .before in
-    let passing = inside .before in
-    let head = passing .before .before .before .before in
-    let start = head .before .before .before .before .before .before .before in
+    let inside = job .before .before .before in
+    let blocks = inside .before .before .before .before .before .before .before .before in
+    let start = blocks .before .before .before .before in
     let a = start .args in
-    let at = head .loop in
-    let blocks = head .before .before .before in
-    let at2 = passing .loop2 in
-    let now = inside .loop2-test .taken in
-    let below = row-below (a .policy) (a .t1) (start .pre .0) (a .requests .now) (a .loadings .now) (at .time) (at-most-end (at .inv .0) (start .pre .1 .1)) (at .s) (at .inv .3 .at) (at2 .s) (at2 .inv) now in
-    let new = rw (asked .entry .ensures, ← row-in (a .t1) (start .pre .0) (at2 .s .next % 16) below) at (job .join .ensures) in
-    rw (c .before .before .before .used .ensures, c .before .before .before .before .sooner2 .ensures, c .before .before .before .before .before .sooner .ensures) (joining-turn (a .policy) (a .t1) (start .pre .0) (a .requests .now) (a .loadings .now) (at .time) (at-most-end (at .inv .0) (start .pre .1 .1)) (at .s) (at .inv .3 .at) (at2 .s) (at2 .inv) now _ new (blocks .blocks2 .result) (blocks .blocks2 .ensures .1) _ (c .least .ensures))
+    rw (c .before .before .before .used .ensures, c .before .before .before .before .sooner2 .ensures, c .before .before .before .before .before .sooner .ensures) (turning-joins (a .policy) (a .t1) (start .pre .0) (a .requests .now) (a .loadings .now) (a .first) (start .pre .1 .0) (a .end) (start .pre .1 .1) [] _ _ _ _ _ (inside .before .loop2 .inv) (inside .loop2-test .taken) _ (job .before .entry .ensures) _ (job .join .ensures) _ (blocks .blocks2 .ensures .1) _ (c .least .ensures))
 
 sooner-requires-3 : tie.Need-sooner-requires-3 Inv-loop2 μ-loop2 Inv-loop μ-loop
 sooner-requires-3 c κs = search needs
@@ -249,13 +230,10 @@ sub-stretch : tie.Need-sub-stretch Inv-loop2 μ-loop2 Inv-loop μ-loop
 sub-stretch c =
     let until = c .before .before in
     let passed = until .before .before .before in
-    let goes-on = passed .before .before in
-    let head = goes-on .before .before .before in
+    let head = passed .before .before .before .before .before in
     let start = head .before .before .before .before .before .before .before in
     let a = start .args in
-    let at = head .loop in
-    let at2 = passed .before .loop2 in
-    less-most (stop-after (a .policy) (a .t1) (start .pre .0) (a .requests .now) (a .loadings .now) (a .first) (start .pre .1 .0) (a .end) (start .pre .1 .1) _ (at .slots) (at .s) (at .was) (at .mark) (at .time) (at .inv .3) (goes-on .before .before .if1 .left) (goes-on .before .if2 .left) (goes-on .if4 .left) (at2 .s) (at2 .inv) (passed .loop2-test .left) _ _ _ (until .before .before .sooner3 .ensures) (until .before .sooner4 .ensures) (until .sooner5 .ensures))
+    less-most (stop-after (a .policy) (a .t1) (start .pre .0) (a .requests .now) (a .loadings .now) (a .first) (start .pre .1 .0) (a .end) (start .pre .1 .1) _ _ _ _ _ _ (passed .before .loop2 .inv) (passed .loop2-test .left) _ (head .loop .inv .3 .painted) _ _ _ (until .before .before .sooner3 .ensures) (until .before .sooner4 .ensures) (until .sooner5 .ensures))
 
 stretch-requires : tie.Need-stretch-requires Inv-loop2 μ-loop2 Inv-loop μ-loop
 stretch-requires c κs =
@@ -269,26 +247,20 @@ loop-less-2 : tie.Need-loop-less-2 Inv-loop2 μ-loop2 Inv-loop μ-loop
 loop-less-2 c =
     let until = c .before .before .before .before .before in
     let passed = until .before .before .before in
-    let goes-on = passed .before .before in
-    let head = goes-on .before .before .before in
+    let head = passed .before .before .before .before .before in
     let start = head .before .before .before .before .before .before .before in
     let a = start .args in
-    let at = head .loop in
-    let at2 = passed .before .loop2 in
-    measure-on (a .end) (at .time) (until .sooner5 .result) (at .mark) (stop-after (a .policy) (a .t1) (start .pre .0) (a .requests .now) (a .loadings .now) (a .first) (start .pre .1 .0) (a .end) (start .pre .1 .1) _ (at .slots) (at .s) (at .was) (at .mark) (at .time) (at .inv .3) (goes-on .before .before .if1 .left) (goes-on .before .if2 .left) (goes-on .if4 .left) (at2 .s) (at2 .inv) (passed .loop2-test .left) _ _ _ (until .before .before .sooner3 .ensures) (until .before .sooner4 .ensures) (until .sooner5 .ensures)) (going-idle (a .policy) (a .t1) (start .pre .0) (a .requests .now) (a .loadings .now) (a .first) (start .pre .1 .0) (a .end) (start .pre .1 .1) _ (at .slots) (at .s) (at .was) (at .mark) (at .time) (at .inv .3) (goes-on .before .before .if1 .left) (goes-on .before .if2 .left) (goes-on .if4 .left) (at2 .s) (at2 .inv) (passed .loop2-test .left) _ _ _ (until .before .before .sooner3 .ensures) (until .before .sooner4 .ensures) (until .sooner5 .ensures) (c .before .before .before .before .if5 .taken) _ (c .before .before .stretch .ensures) .most)
+    measure-on (a .end) (head .loop .time) (until .sooner5 .result) (head .loop .mark) (stop-after (a .policy) (a .t1) (start .pre .0) (a .requests .now) (a .loadings .now) (a .first) (start .pre .1 .0) (a .end) (start .pre .1 .1) _ _ _ _ _ _ (passed .before .loop2 .inv) (passed .loop2-test .left) _ (head .loop .inv .3 .painted) _ _ _ (until .before .before .sooner3 .ensures) (until .before .sooner4 .ensures) (until .sooner5 .ensures)) (going-idle (a .policy) (a .t1) (start .pre .0) (a .requests .now) (a .loadings .now) (a .first) (start .pre .1 .0) (a .end) (start .pre .1 .1) _ _ _ _ _ _ (passed .before .loop2 .inv) (passed .loop2-test .left) _ (head .loop .inv .3 .painted) _ _ _ (until .before .before .sooner3 .ensures) (until .before .sooner4 .ensures) (until .sooner5 .ensures) (c .before .before .before .before .if5 .taken) _ (c .before .before .stretch .ensures) .most)
 
 loop-again-2 : tie.Need-loop-again-2 Inv-loop2 μ-loop2 Inv-loop μ-loop
 loop-again-2 c =
     let until = c .before .before .before .before .before in
     let passed = until .before .before .before in
-    let goes-on = passed .before .before in
-    let head = goes-on .before .before .before in
+    let head = passed .before .before .before .before .before in
     let start = head .before .before .before .before .before .before .before in
     let a = start .args in
-    let at = head .loop in
-    let at2 = passed .before .loop2 in
-    let g = going-idle (a .policy) (a .t1) (start .pre .0) (a .requests .now) (a .loadings .now) (a .first) (start .pre .1 .0) (a .end) (start .pre .1 .1) _ (at .slots) (at .s) (at .was) (at .mark) (at .time) (at .inv .3) (goes-on .before .before .if1 .left) (goes-on .before .if2 .left) (goes-on .if4 .left) (at2 .s) (at2 .inv) (passed .loop2-test .left) _ _ _ (until .before .before .sooner3 .ensures) (until .before .sooner4 .ensures) (until .sooner5 .ensures) (c .before .before .before .before .if5 .taken) _ (c .before .before .stretch .ensures) in
-    (g .most, at .inv .1, g .painted .size, g)
+    let g = going-idle (a .policy) (a .t1) (start .pre .0) (a .requests .now) (a .loadings .now) (a .first) (start .pre .1 .0) (a .end) (start .pre .1 .1) _ _ _ _ _ _ (passed .before .loop2 .inv) (passed .loop2-test .left) _ (head .loop .inv .3 .painted) _ _ _ (until .before .before .sooner3 .ensures) (until .before .sooner4 .ensures) (until .sooner5 .ensures) (c .before .before .before .before .if5 .taken) _ (c .before .before .stretch .ensures) in
+    (g .most, head .loop .inv .1, g .painted .size, g)
 
 mul-r-2 : tie.Need-mul-r-2 Inv-loop2 μ-loop2 Inv-loop μ-loop
 mul-r-2 c = search needs
@@ -388,14 +360,11 @@ loop-less-3 c =
     let chosen = loaded .before .before .before .before .before .before .before .before in
     let until = chosen .before in
     let passed = until .before .before .before in
-    let goes-on = passed .before .before in
-    let head = goes-on .before .before .before in
+    let head = passed .before .before .before .before .before in
     let start = head .before .before .before .before .before .before .before in
     let a = start .args in
-    let at = head .loop in
-    let at2 = passed .before .loop2 in
-    let g = going-goes (a .policy) (a .t1) (start .pre .0) (a .requests .now) (a .loadings .now) (a .first) (start .pre .1 .0) (a .end) (start .pre .1 .1) _ (at .slots) (at .s) (at .was) (at .mark) (at .time) (at .inv .3) (goes-on .before .before .if1 .left) (goes-on .before .if2 .left) (goes-on .if4 .left) (at2 .s) (at2 .inv) (passed .loop2-test .left) _ _ _ (until .before .before .sooner3 .ensures) (until .before .sooner4 .ensures) (until .sooner5 .ensures) (chosen .if5 .left) _ (loaded .before .continues .ensures) _ (loaded .load .ensures) _ (counted .before .before .finish .ensures) _ _ (counted .before .sooner6 .ensures) (counted .span .ensures) _ (painted .stretch2 .ensures) (short .if6 .taken) _ (c .before .worked .ensures ∙ ap (workedOf _ _) (c .before .before .minus .ensures)) _ (c .minus2 .ensures) in
-    measure-on (a .end) (at .time) (until .sooner5 .result) (at .mark) (stop-after (a .policy) (a .t1) (start .pre .0) (a .requests .now) (a .loadings .now) (a .first) (start .pre .1 .0) (a .end) (start .pre .1 .1) _ (at .slots) (at .s) (at .was) (at .mark) (at .time) (at .inv .3) (goes-on .before .before .if1 .left) (goes-on .before .if2 .left) (goes-on .if4 .left) (at2 .s) (at2 .inv) (passed .loop2-test .left) _ _ _ (until .before .before .sooner3 .ensures) (until .before .sooner4 .ensures) (until .sooner5 .ensures)) (g .most)
+    let g = going-goes (a .policy) (a .t1) (start .pre .0) (a .requests .now) (a .loadings .now) (a .first) (start .pre .1 .0) (a .end) (start .pre .1 .1) _ _ _ _ _ _ (passed .before .loop2 .inv) (passed .loop2-test .left) _ (head .loop .inv .3 .painted) _ _ _ (until .before .before .sooner3 .ensures) (until .before .sooner4 .ensures) (until .sooner5 .ensures) (chosen .if5 .left) _ (loaded .before .continues .ensures) _ (loaded .load .ensures) _ (counted .before .before .finish .ensures) _ _ (counted .before .sooner6 .ensures) (counted .span .ensures) _ (painted .stretch2 .ensures) (short .if6 .taken) _ (c .before .worked .ensures ∙ ap (workedOf _ _) (c .before .before .minus .ensures)) _ (c .minus2 .ensures) in
+    measure-on (a .end) (head .loop .time) (until .sooner5 .result) (head .loop .mark) (stop-after (a .policy) (a .t1) (start .pre .0) (a .requests .now) (a .loadings .now) (a .first) (start .pre .1 .0) (a .end) (start .pre .1 .1) _ _ _ _ _ _ (passed .before .loop2 .inv) (passed .loop2-test .left) _ (head .loop .inv .3 .painted) _ _ _ (until .before .before .sooner3 .ensures) (until .before .sooner4 .ensures) (until .sooner5 .ensures)) (g .most)
 
 loop-again-3 : tie.Need-loop-again-3 Inv-loop2 μ-loop2 Inv-loop μ-loop
 loop-again-3 c =
@@ -406,14 +375,11 @@ loop-again-3 c =
     let chosen = loaded .before .before .before .before .before .before .before .before in
     let until = chosen .before in
     let passed = until .before .before .before in
-    let goes-on = passed .before .before in
-    let head = goes-on .before .before .before in
+    let head = passed .before .before .before .before .before in
     let start = head .before .before .before .before .before .before .before in
     let a = start .args in
-    let at = head .loop in
-    let at2 = passed .before .loop2 in
-    let g = going-goes (a .policy) (a .t1) (start .pre .0) (a .requests .now) (a .loadings .now) (a .first) (start .pre .1 .0) (a .end) (start .pre .1 .1) _ (at .slots) (at .s) (at .was) (at .mark) (at .time) (at .inv .3) (goes-on .before .before .if1 .left) (goes-on .before .if2 .left) (goes-on .if4 .left) (at2 .s) (at2 .inv) (passed .loop2-test .left) _ _ _ (until .before .before .sooner3 .ensures) (until .before .sooner4 .ensures) (until .sooner5 .ensures) (chosen .if5 .left) _ (loaded .before .continues .ensures) _ (loaded .load .ensures) _ (counted .before .before .finish .ensures) _ _ (counted .before .sooner6 .ensures) (counted .span .ensures) _ (painted .stretch2 .ensures) (short .if6 .taken) _ (c .before .worked .ensures ∙ ap (workedOf _ _) (c .before .before .minus .ensures)) _ (c .minus2 .ensures) in
-    (g .most, at .inv .1, g .painted .size, g)
+    let g = going-goes (a .policy) (a .t1) (start .pre .0) (a .requests .now) (a .loadings .now) (a .first) (start .pre .1 .0) (a .end) (start .pre .1 .1) _ _ _ _ _ _ (passed .before .loop2 .inv) (passed .loop2-test .left) _ (head .loop .inv .3 .painted) _ _ _ (until .before .before .sooner3 .ensures) (until .before .sooner4 .ensures) (until .sooner5 .ensures) (chosen .if5 .left) _ (loaded .before .continues .ensures) _ (loaded .load .ensures) _ (counted .before .before .finish .ensures) _ _ (counted .before .sooner6 .ensures) (counted .span .ensures) _ (painted .stretch2 .ensures) (short .if6 .taken) _ (c .before .worked .ensures ∙ ap (workedOf _ _) (c .before .before .minus .ensures)) _ (c .minus2 .ensures) in
+    (g .most, head .loop .inv .1, g .painted .size, g)
 
 mul-span : tie.Need-mul-span Inv-loop2 μ-loop2 Inv-loop μ-loop
 mul-span c = search needs
@@ -470,13 +436,13 @@ without-requires : tie.Need-without-requires Inv-loop2 μ-loop2 Inv-loop μ-loop
 without-requires c κs =
     let passing = c .before .before .before .before .before .before .before .before .before .before .before .before .before .before .before .before .before .before .before .before .before .before .before .before .before .before .before .before .before .before .before in
     let blocks = passing .before .before .before .before .before .before .before in
-    (blocks .blocks2 .ensures .0, simp length-set (passing .loop2 .inv .passing .full .due))
+    (blocks .blocks2 .ensures .0, simp length-set (passing .loop2 .inv .joining .passing .full .due))
 
 least-requires-2 : tie.Need-least-requires-2 Inv-loop2 μ-loop2 Inv-loop μ-loop
 least-requires-2 c κs =
     let passing = c .before .before .before .before .before .before .before .before .before .before .before .before .before .before .before .before .before .before .before .before .before .before .before .before .before .before .before .before .before .before .before .before .before .before in
     let blocks = passing .before .before .before .before .before .before .before in
-    (blocks .blocks2 .ensures .0, simp length-set (passing .loop2 .inv .passing .full .key))
+    (blocks .blocks2 .ensures .0, simp length-set (passing .loop2 .inv .joining .passing .full .key))
 
 loop-less-4 : tie.Need-loop-less-4 Inv-loop2 μ-loop2 Inv-loop μ-loop
 loop-less-4 c =
@@ -490,13 +456,10 @@ loop-less-4 c =
     let chosen = loaded .before .before .before .before .before .before .before .before in
     let until = chosen .before in
     let passed = until .before .before .before in
-    let goes-on = passed .before .before in
-    let head = goes-on .before .before .before in
+    let head = passed .before .before .before .before .before in
     let start = head .before .before .before .before .before .before .before in
     let a = start .args in
-    let at = head .loop in
-    let at2 = passed .before .loop2 in
-    measure-on (a .end) (at .time) (counted .before .before .finish .result) (at .mark) (full-after (a .policy) (a .t1) (start .pre .0) (a .requests .now) (a .loadings .now) (a .first) (start .pre .1 .0) (a .end) (start .pre .1 .1) _ (at .slots) (at .s) (at .was) (at .mark) (at .time) (at .inv .3) (goes-on .before .before .if1 .left) (goes-on .before .if2 .left) (goes-on .if4 .left) (at2 .s) (at2 .inv) (passed .loop2-test .left) _ _ _ (until .before .before .sooner3 .ensures) (until .before .sooner4 .ensures) (until .sooner5 .ensures) (chosen .if5 .left) _ (loaded .before .continues .ensures) _ (loaded .load .ensures) _ (counted .before .before .finish .ensures) _ _ (counted .before .sooner6 .ensures) (counted .span .ensures) _ (painted .stretch2 .ensures) (all .if6 .left) _ _ _ (rest .before .span2 .ensures) (rest .minus3 .ensures) (larger .greater .ensures) _ (head .before .before .before .blocks2 .ensures .1) _ (left .without .ensures) _ (c .least2 .ensures)) (going-ends (a .policy) (a .t1) (start .pre .0) (a .requests .now) (a .loadings .now) (a .first) (start .pre .1 .0) (a .end) (start .pre .1 .1) _ (at .slots) (at .s) (at .was) (at .mark) (at .time) (at .inv .3) (goes-on .before .before .if1 .left) (goes-on .before .if2 .left) (goes-on .if4 .left) (at2 .s) (at2 .inv) (passed .loop2-test .left) _ _ _ (until .before .before .sooner3 .ensures) (until .before .sooner4 .ensures) (until .sooner5 .ensures) (chosen .if5 .left) _ (loaded .before .continues .ensures) _ (loaded .load .ensures) _ (counted .before .before .finish .ensures) _ _ (counted .before .sooner6 .ensures) (counted .span .ensures) _ (painted .stretch2 .ensures) (all .if6 .left) _ _ _ (rest .before .span2 .ensures) (rest .minus3 .ensures) (larger .greater .ensures) _ (head .before .before .before .blocks2 .ensures .1) _ (left .without .ensures) _ (c .least2 .ensures) .most)
+    measure-on (a .end) (head .loop .time) (counted .before .before .finish .result) (head .loop .mark) (full-after (a .policy) (a .t1) (start .pre .0) (a .requests .now) (a .loadings .now) (a .first) (start .pre .1 .0) (a .end) (start .pre .1 .1) _ _ _ _ _ _ (passed .before .loop2 .inv) (passed .loop2-test .left) _ (head .loop .inv .3 .painted) _ _ _ (until .before .before .sooner3 .ensures) (until .before .sooner4 .ensures) (until .sooner5 .ensures) (chosen .if5 .left) _ (loaded .before .continues .ensures) _ (loaded .load .ensures) _ (counted .before .before .finish .ensures) _ _ (counted .before .sooner6 .ensures) (counted .span .ensures) _ (painted .stretch2 .ensures) (all .if6 .left) _ _ _ (rest .before .span2 .ensures) (rest .minus3 .ensures) (larger .greater .ensures) _ (head .before .before .before .blocks2 .ensures .1) _ (left .without .ensures) _ (c .least2 .ensures)) (going-ends (a .policy) (a .t1) (start .pre .0) (a .requests .now) (a .loadings .now) (a .first) (start .pre .1 .0) (a .end) (start .pre .1 .1) _ _ _ _ _ _ (passed .before .loop2 .inv) (passed .loop2-test .left) _ (head .loop .inv .3 .painted) _ _ _ (until .before .before .sooner3 .ensures) (until .before .sooner4 .ensures) (until .sooner5 .ensures) (chosen .if5 .left) _ (loaded .before .continues .ensures) _ (loaded .load .ensures) _ (counted .before .before .finish .ensures) _ _ (counted .before .sooner6 .ensures) (counted .span .ensures) _ (painted .stretch2 .ensures) (all .if6 .left) _ _ _ (rest .before .span2 .ensures) (rest .minus3 .ensures) (larger .greater .ensures) _ (head .before .before .before .blocks2 .ensures .1) _ (left .without .ensures) _ (c .least2 .ensures) .most)
 
 loop-again-4 : tie.Need-loop-again-4 Inv-loop2 μ-loop2 Inv-loop μ-loop
 loop-again-4 c =
@@ -510,14 +473,11 @@ loop-again-4 c =
     let chosen = loaded .before .before .before .before .before .before .before .before in
     let until = chosen .before in
     let passed = until .before .before .before in
-    let goes-on = passed .before .before in
-    let head = goes-on .before .before .before in
+    let head = passed .before .before .before .before .before in
     let start = head .before .before .before .before .before .before .before in
     let a = start .args in
-    let at = head .loop in
-    let at2 = passed .before .loop2 in
-    let g = going-ends (a .policy) (a .t1) (start .pre .0) (a .requests .now) (a .loadings .now) (a .first) (start .pre .1 .0) (a .end) (start .pre .1 .1) _ (at .slots) (at .s) (at .was) (at .mark) (at .time) (at .inv .3) (goes-on .before .before .if1 .left) (goes-on .before .if2 .left) (goes-on .if4 .left) (at2 .s) (at2 .inv) (passed .loop2-test .left) _ _ _ (until .before .before .sooner3 .ensures) (until .before .sooner4 .ensures) (until .sooner5 .ensures) (chosen .if5 .left) _ (loaded .before .continues .ensures) _ (loaded .load .ensures) _ (counted .before .before .finish .ensures) _ _ (counted .before .sooner6 .ensures) (counted .span .ensures) _ (painted .stretch2 .ensures) (all .if6 .left) _ _ _ (rest .before .span2 .ensures) (rest .minus3 .ensures) (larger .greater .ensures) _ (head .before .before .before .blocks2 .ensures .1) _ (left .without .ensures) _ (c .least2 .ensures) in
-    (g .most, at .inv .1, g .painted .size, g)
+    let g = going-ends (a .policy) (a .t1) (start .pre .0) (a .requests .now) (a .loadings .now) (a .first) (start .pre .1 .0) (a .end) (start .pre .1 .1) _ _ _ _ _ _ (passed .before .loop2 .inv) (passed .loop2-test .left) _ (head .loop .inv .3 .painted) _ _ _ (until .before .before .sooner3 .ensures) (until .before .sooner4 .ensures) (until .sooner5 .ensures) (chosen .if5 .left) _ (loaded .before .continues .ensures) _ (loaded .load .ensures) _ (counted .before .before .finish .ensures) _ _ (counted .before .sooner6 .ensures) (counted .span .ensures) _ (painted .stretch2 .ensures) (all .if6 .left) _ _ _ (rest .before .span2 .ensures) (rest .minus3 .ensures) (larger .greater .ensures) _ (head .before .before .before .blocks2 .ensures .1) _ (left .without .ensures) _ (c .least2 .ensures) in
+    (g .most, head .loop .inv .1, g .painted .size, g)
 
 pub run-spec : {M : Type 1} → statement M
 run-spec =
