@@ -108,13 +108,13 @@ module _ (p : ℕ) (t : Table) (sound : Sound t) (xs zs : List ℕ) (first : ℕ
     below = omega (arith, g .most, high)
 
     -- A MISS
-    pub ran-missed : s .soonest ≡ u → (m : ℕ) → m ≡ firstDue (t .count) (s .due) u → Ran p t xs zs first end (record { state = s; time = u; miss = m; repeats = false })
+    pub ran-missed : s .soonest ≡ u → (m : ℕ) → m ≡ firstDue (t .count) (s .due) u → Ran p t xs zs first end (record { worst = s .worst; time = u; miss = m; repeats = false })
     ran-missed e m is = rw is (record {
       most = g .most;
       task = missed-top p t sound xs zs u below s (g .at);
       clean = g .at .clean;
       miss = missed-is p t sound xs zs u below s (g .at);
-      at = λ z. g .at;
+      seen = λ z. g .at .seen;
       repeats = λ z. clash z refl;
       alone = λ z. refl;
       through = λ z none. absurd (missed-some p t sound xs zs u below s (g .at) e none);
@@ -126,13 +126,13 @@ module _ (p : ℕ) (t : Table) (sound : Sound t) (xs zs : List ℕ) (first : ℕ
       clear = none-missed p t sound xs zs u below s (g .at) on-time
 
       -- A MARK with the state of the one before, or with another
-      pub ran-repeats : mark ≡ u → Alike (t .count) (keep s) was → Ran p t xs zs first end (record { state = s; time = u; miss = 0; repeats = true })
+      pub ran-repeats : mark ≡ u → Alike (t .count) (keep s) was → Ran p t xs zs first end (record { worst = s .worst; time = u; miss = 0; repeats = true })
       ran-repeats now like = record {
         most = g .most;
         task = omega arith;
         clean = g .at .clean;
         miss = sym clear;
-        at = λ z. g .at;
+        seen = λ z. g .at .seen;
         repeats = λ z. repeats-now p t xs zs first mark u was (g .watched) below sound now (mark-now p t xs zs first mark u was (g .watched) below kind now) s (g .at) like;
         alone = λ f. absurd (omega (arith, g .watched .unmarked f, now, below));
         through = λ z. clash refl z;
@@ -149,13 +149,13 @@ module _ (p : ℕ) (t : Table) (sound : Sound t) (xs zs : List ℕ) (first : ℕ
 
       module _ (later : mark ≢ u) where
         -- THE END
-        pub ran-through : u ≡ end → Ran p t xs zs first end (record { state = s; time = u; miss = 0; repeats = false })
+        pub ran-through : u ≡ end → Ran p t xs zs first end (record { worst = s .worst; time = u; miss = 0; repeats = false })
         ran-through e = record {
           most = g .most;
           task = omega arith;
           clean = g .at .clean;
           miss = sym clear;
-          at = λ z. g .at;
+          seen = λ z. g .at .seen;
           repeats = λ z. clash z refl;
           alone = λ f. refl;
           through = λ z n. e;

@@ -25,7 +25,7 @@ use Rattle.theory.specs.Rows as rows
 use Rattle.theory.specs.Repetition.{never-missed}
 use Rattle.theory.specs.Completions.{seen-worst}
 use Rattle.checker.specs.declared.machine.Stop.{Stop}
-use Rattle.checker.specs.Machine.{live, Sound, systemIn, choices, missAt, worstIn, markOf, SameAt, Repeats, Ran}
+use Rattle.checker.specs.Machine.{live, Sound, systemIn, choices, missAt, markOf, SameAt, Repeats, Ran}
 use Rattle.checker.specs.Outcomes.{acceptedOf, Outcomes}
 use Rattle.checker.proofs.SoundTables.{valid, id-in, deadline-some}
 
@@ -69,7 +69,7 @@ module _ (p : ℕ) (t : Table) (g : Sound t) where
   -- THE RUN up to the allowance a, or up to 2^48
   module _ (a : ℕ) (q : Stop) (ran : Ran p t [] [] (t .omax) (min a 281474976710656) q) where
     pub missed-end : (i : ℕ) → 0 < q .miss → i ≡ getD (t .rows) (q .miss - 1) noRow .id
-        → Outcomes p t a (record { verdict = Missed (q .time) i; state = q .state })
+        → Outcomes p t a (record { verdict = Missed (q .time) i; worst = q .worst })
     missed-end i some its = record {
       decides = (
         record { misses = λ e. omega (arith, ran .miss, miss-stated p t (q .time)); before = λ v h. sym (miss-stated p t v) ∙ ran .clean v h },
@@ -103,14 +103,14 @@ module _ (p : ℕ) (t : Table) (g : Sound t) where
       never = never-missed (systemIn p t) short-in (t .hyper) turn-in (within-in .some) from offsets same
           (λ v h. sym (miss-stated p t v) ∙ ran .clean v (omega (arith, stop .mark)))
 
-      pub accepted-end : Outcomes p t a (record { verdict = Accepted (q .time); state = q .state })
+      pub accepted-end : Outcomes p t a (record { verdict = Accepted (q .time); worst = q .worst })
       accepted-end = record {
         decides = rw (← g .omax, ← g .hyper) (
           record { never = never; k = stop .k; equal = equal; least = λ i h e. stop .apart i h (stated-equal p t i e); number = stop .mark },
           omega (arith, ran .most),
         );
         worst = λ n e i low. seen-worst (systemIn p t) short-in (t .hyper) turn-in (within-in .some) from offsets same never i (omega (arith, g .count))
-            (deadline-some t g i low) (worstIn (q .state) i) (rw (stop .mark ∙ next) at (ran .at none .seen (as-stated p t) i low));
+            (deadline-some t g i low) (getD (q .worst) i 0) (rw (stop .mark ∙ next) at (ran .seen none (as-stated p t) i low));
       }
 
     -- it went through: neither a miss nor an equal state is within it
@@ -121,7 +121,7 @@ module _ (p : ℕ) (t : Table) (g : Sound t) where
           (λ h. absurd (ran .apart apart none refl (s .k) (omega (arith, ran .most)) (stated-equal p t (s .k) (s .equal))))
           (λ h. omega (arith, s .number))
 
-      pub undecided-end : Outcomes p t a (record { verdict = Undecided; state = q .state })
+      pub undecided-end : Outcomes p t a (record { verdict = Undecided; worst = q .worst })
       undecided-end =
           let needed = rows.needed (policies.policy p) (policy-repeats p) (live t) (valid t g) in
           let most = rows.at-most (policies.policy p) (policy-repeats p) (live t) (valid t g) _ needed in

@@ -44,7 +44,7 @@ module _ {p a : ℕ} (b : Bool) (text : List ℕ) {g : TableRead} (e : g ≡ adm
   }
 
   -- THE LENT NUMBERS: written where it is accepted
-  module _ {before after : List ℕ} (w : Wrote (g .table .count) (o .state) before after) where
+  module _ {before after : List ℕ} (w : Wrote (g .table .count) (o .worst) before after) where
     hold : (n : ℕ) → o .verdict ≡ Accepted n → Hold (systemIn p (g .table)) before after
     hold n v =
         let size = sound-in p b text e fine .count in

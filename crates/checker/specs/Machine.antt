@@ -150,7 +150,7 @@ pub record Ran (p : ℕ) (t : Table) (xs zs : List ℕ) (first end : ℕ) (r : S
   pub task : r .miss ≤ t .count
   pub clean : (v : ℕ) → v < r .time → missAt p t xs zs v ≡ 0
   pub miss : r .miss ≡ missAt p t xs zs (r .time)
-  pub at : r .miss ≡ 0 → At p t xs zs (r .time) (r .state)
+  pub seen : r .miss ≡ 0 → choices p t xs zs ≡ rules.stated (systemIn p t) → (i : ℕ) → i < t .count → Seen (systemIn p t) i (r .time) (getD (r .worst) i 0)
   pub repeats : r .repeats ≡ true → Repeats p t xs zs (r .time)
   pub alone : first ≡ never → r .repeats ≡ false
   pub through : r .repeats ≡ false → r .miss ≡ 0 → r .time ≡ end

@@ -9,9 +9,8 @@ use Rattle.rules.specs.declared.Verdict.{Verdict}
 use Rattle.rules.specs.declared.Verdict.the-variants.{Accepted, Missed, Undecided, Refused}
 use Rattle.rules.specs.Table.{omax, hyper}
 use Rattle.rules.specs.Verdicts.{Decides, Worst}
-use Rattle.checker.specs.declared.machine.State.{State}
 use Rattle.checker.specs.declared.decide.Outcome.{Outcome}
-use Rattle.checker.specs.Machine.{live, systemIn, worstIn}
+use Rattle.checker.specs.Machine.{live, systemIn}
 
 abbrev pub acceptedOf : Verdict → Bool
 acceptedOf (Accepted n) = true
@@ -22,10 +21,10 @@ acceptedOf (Refused n p) = false
 -- the reply of a table in hand, and the worst responses where it is accepted
 pub record Outcomes (p : ℕ) (t : Table) (a : ℕ) (r : Outcome) : Type 0 where
   pub decides : Decides (systemIn p t) (omax (live t)) (hyper (live t)) a (r .verdict)
-  pub worst : (n : ℕ) → r .verdict ≡ Accepted n → (i : ℕ) → i < t .count → Worst (systemIn p t) i (worstIn (r .state) i)
+  pub worst : (n : ℕ) → r .verdict ≡ Accepted n → (i : ℕ) → i < t .count → Worst (systemIn p t) i (getD (r .worst) i 0)
 
 -- the numbers written
-pub record Wrote (rows : ℕ) (s : State) (before after : List ℕ) : Type 0 where
+pub record Wrote (rows : ℕ) (numbers before after : List ℕ) : Type 0 where
   pub size : length after ≡ length before
-  pub worst : (i : ℕ) → i < rows → getD after i 0 ≡ worstIn s i
+  pub worst : (i : ℕ) → i < rows → getD after i 0 ≡ getD numbers i 0
   pub rest : drop rows after ≡ drop rows before

@@ -4,14 +4,13 @@ ghost use Prim.Native.Nat.{_≤_, min};
 ghost use lib.ListN.{length};
 ghost use Rattle.checker.specs.Machine.{Sound};
 ghost use Rattle.checker.specs.Outcomes.{acceptedOf, Outcomes, Wrote};
-use crate::machine::State;
 use rules::Table;
 use rules::Verdict;
 
-// The verdict, and the state at which it was given.
+// The verdict, and the longest responses up to it.
 pub struct Outcome {
     pub verdict: Verdict,
-    pub state: State,
+    pub worst: [u32; 16],
 }
 
 pub fn accepted(v: Verdict) -> bool
@@ -54,7 +53,7 @@ pub fn decide(t: Table, policy: u32, allowance: u64) -> Outcome
         &loadings[..0],
         &mut slots[..0],
     );
-    let s = q.state;
+    let w = q.worst;
     let m = q.miss;
     if 0 < m {
         let i = crate::machine::id_of(t, m);
@@ -63,29 +62,29 @@ pub fn decide(t: Table, policy: u32, allowance: u64) -> Outcome
                 time: q.time,
                 id: i,
             },
-            state: s,
+            worst: w,
         };
     }
     if q.repeats {
         return Outcome {
             verdict: Verdict::Accepted(q.time),
-            state: s,
+            worst: w,
         };
     }
     Outcome {
         verdict: Verdict::Undecided,
-        state: s,
+        worst: w,
     }
 }
 
 // The worst responses into the first of the lent numbers.
-pub fn write_worst(rows: usize, s: State, numbers: &mut [u32])
+pub fn write_worst(rows: usize, worst: [u32; 16], numbers: &mut [u32])
     requires { ⌜ (rows ≤ 16) × (rows ≤ length (now numbers)) ⌝ }
-    ensures { λ r. ⌜ Wrote rows s (now (numbers .entry)) (now (numbers .exit)) ⌝ }
+    ensures { λ r. ⌜ Wrote rows worst (now (numbers .entry)) (now (numbers .exit)) ⌝ }
 {
     let mut i: usize = 0;
     while i < rows {
-        numbers[i] = s.worst[i];
+        numbers[i] = worst[i];
         i += 1;
     }
 }

@@ -47,8 +47,8 @@ pub fn responses(policy: u32, allowance: u64, text: &[u8], numbers: &mut [u32]) 
     let o = decide::decide(t, policy, allowance);
     let v = o.verdict;
     if decide::accepted(v) {
-        let s = o.state;
-        decide::write_worst(t.count, s, numbers);
+        let w = o.worst;
+        decide::write_worst(t.count, w, numbers);
         return v;
     }
     v

@@ -33,9 +33,9 @@ pub struct State {
 }
 
 // Where a run stopped, and why: at a miss, which is of row i if it is i + 1; or at a mark with the state of the mark before; or, with
-// neither, at its end.
+// neither, at its end. And the longest responses so far.
 pub struct Stop {
-    pub state: State,
+    pub worst: [u32; 16],
     pub time: u64,
     pub miss: usize,
     pub repeats: bool,
@@ -140,8 +140,9 @@ pub fn run(
         // a deadline of a job that is not complete
         if s.soonest == time {
             let m = overdue(rows, &s.due, time);
+            let w = s.worst;
             return Stop {
-                state: s,
+                worst: w,
                 time: time,
                 miss: m,
                 repeats: false,
@@ -157,8 +158,9 @@ pub fn run(
                 left: l,
             };
             if crate::marks::same(rows, here, was) {
+                let w = s.worst;
                 return Stop {
-                    state: s,
+                    worst: w,
                     time: time,
                     miss: 0,
                     repeats: true,
@@ -169,8 +171,9 @@ pub fn run(
             continue;
         }
         if time == end {
+            let w = s.worst;
             return Stop {
-                state: s,
+                worst: w,
                 time: time,
                 miss: 0,
                 repeats: false,

@@ -6,15 +6,14 @@ use borrow.Author.Count.{below-more}
 use borrow.Author.Needs.{needs}
 use lib.ListN.{length, getD, drop, set, length-set}
 use lib.Seq.{getD-set-same, getD-set-other, drop-set-lt}
-use Rattle.checker.specs.Machine.{worstIn}
 use Rattle.checker.proofs.decide.write_worst.Statement.{statement}
 use Rattle.checker.proofs.decide.write_worst.Tie as tie
 
 abbrev Inv-loop : tie.InvT-loop
-Inv-loop rows numbers₀ s i₀ numbers i = (i ≤ rows) × (length numbers ≡ length numbers₀) × ((k : ℕ) → k < i → getD numbers k 0 ≡ worstIn s k) × (drop rows numbers ≡ drop rows numbers₀)
+Inv-loop rows numbers₀ worst i₀ numbers i = (i ≤ rows) × (length numbers ≡ length numbers₀) × ((k : ℕ) → k < i → getD numbers k 0 ≡ getD worst k 0) × (drop rows numbers ≡ drop rows numbers₀)
 
 abbrev μ-loop : tie.MeasureT-loop
-μ-loop rows numbers₀ s i₀ numbers i = rows - i
+μ-loop rows numbers₀ worst i₀ numbers i = rows - i
 
 loop-holds : tie.Need-loop-holds Inv-loop μ-loop
 loop-holds c = (search needs, refl, λ k h. absurd (omega arith), refl)
@@ -22,8 +21,8 @@ loop-holds c = (search needs, refl, λ k h. absurd (omega arith), refl)
 mul-numbers : tie.Need-mul-numbers Inv-loop μ-loop
 mul-numbers c = search needs
 
-element-copy-out-numbers : tie.Need-element-copy-out-numbers Inv-loop μ-loop
-element-copy-out-numbers c = search needs
+array-read-numbers : tie.Need-array-read-numbers Inv-loop μ-loop
+array-read-numbers c = search needs
 
 mul-numbers-2 : tie.Need-mul-numbers-2 Inv-loop μ-loop
 mul-numbers-2 c = search needs
@@ -39,15 +38,15 @@ loop-less c = search needs
 
 loop-again : tie.Need-loop-again Inv-loop μ-loop
 loop-again c =
-    let at = c .before .before .loop in
-    let s = c .before .before .before .args .t2 in
+    let at = c .before .loop in
+    let w = c .before .before .args .t2 in
     let here : at .i < length (at .numbers) = omega arith in (
       search needs,
       simp length-set (at .inv .1),
-      below-more (λ k. getD (set (at .numbers) (at .i) (worstIn s (at .i))) k 0 ≡ worstIn s k) (at .i)
-          (λ k h. getD-set-other (at .numbers) (at .i) k (worstIn s (at .i)) 0 (λ e. omega arith) ∙ at .inv .2 k h)
-          (getD-set-same (at .numbers) (at .i) (worstIn s (at .i)) 0 here),
-      drop-set-lt (c .before .before .before .args .rows) (at .numbers) (at .i) (worstIn s (at .i)) (omega arith) ∙ at .inv .3,
+      below-more (λ k. getD (set (at .numbers) (at .i) (getD w (at .i) 0)) k 0 ≡ getD w k 0) (at .i)
+          (λ k h. getD-set-other (at .numbers) (at .i) k (getD w (at .i) 0) 0 (λ e. omega arith) ∙ at .inv .2 k h)
+          (getD-set-same (at .numbers) (at .i) (getD w (at .i) 0) 0 here),
+      drop-set-lt (c .before .before .args .rows) (at .numbers) (at .i) (getD w (at .i) 0) (omega arith) ∙ at .inv .3,
     )
 
 same-length : tie.Need-same-length Inv-loop μ-loop
@@ -66,7 +65,7 @@ write-worst-spec =
     μ-loop
     loop-holds
     mul-numbers
-    element-copy-out-numbers
+    array-read-numbers
     mul-numbers-2
     slice-write-numbers
     add-i

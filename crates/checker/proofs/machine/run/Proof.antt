@@ -84,11 +84,11 @@ same-length c = search needs
 
 returns : tie.Need-returns Inv-loop2 μ-loop2 Inv-loop μ-loop
 returns c =
-    let head = c .before .before .before .before in
+    let head = c .before .before .before .before .before in
     let start = head .before .before .before .before .before .before .before in
     let a = start .args in
     let at = head .loop in
-    (ran-missed (a .policy) (a .t1) (start .pre .0) (a .requests .now) (a .loadings .now) (a .first) (start .pre .1 .0) (a .end) (start .pre .1 .1) _ (at .slots) (at .s) (at .was) (at .mark) (at .time) (at .inv .3) (c .before .before .before .if1 .taken) _ (c .overdue .ensures), at .inv .3 .painted)
+    (ran-missed (a .policy) (a .t1) (start .pre .0) (a .requests .now) (a .loadings .now) (a .first) (start .pre .1 .0) (a .end) (start .pre .1 .1) _ (at .slots) (at .s) (at .was) (at .mark) (at .time) (at .inv .3) (c .before .before .before .before .if1 .taken) _ (c .before .overdue .ensures), at .inv .3 .painted)
 
 same-requires : tie.Need-same-requires Inv-loop2 μ-loop2 Inv-loop μ-loop
 same-requires c κs = search needs
@@ -98,11 +98,11 @@ same-length-2 c = search needs
 
 returns-2 : tie.Need-returns-2 Inv-loop2 μ-loop2 Inv-loop μ-loop
 returns-2 c =
-    let head = c .before .before .before .before .before .before in
+    let head = c .before .before .before .before .before .before .before in
     let start = head .before .before .before .before .before .before .before in
     let a = start .args in
     let at = head .loop in
-    (ran-repeats (a .policy) (a .t1) (start .pre .0) (a .requests .now) (a .loadings .now) (a .first) (start .pre .1 .0) (a .end) (start .pre .1 .1) _ (at .slots) (at .s) (at .was) (at .mark) (at .time) (at .inv .3) (c .before .before .before .before .before .if1 .left) (c .before .before .before .before .if2 .taken) (c .before .same .ensures .0 (c .if3 .taken)), at .inv .3 .painted)
+    (ran-repeats (a .policy) (a .t1) (start .pre .0) (a .requests .now) (a .loadings .now) (a .first) (start .pre .1 .0) (a .end) (start .pre .1 .1) _ (at .slots) (at .s) (at .was) (at .mark) (at .time) (at .inv .3) (c .before .before .before .before .before .before .if1 .left) (c .before .before .before .before .before .if2 .taken) (c .before .before .same .ensures .0 (c .before .if3 .taken)), at .inv .3 .painted)
 
 add-mark : tie.Need-add-mark Inv-loop2 μ-loop2 Inv-loop μ-loop
 add-mark c = search needs
@@ -128,11 +128,11 @@ same-length-3 c = search needs
 
 returns-3 : tie.Need-returns-3 Inv-loop2 μ-loop2 Inv-loop μ-loop
 returns-3 c =
-    let head = c .before .before .before in
+    let head = c .before .before .before .before in
     let start = head .before .before .before .before .before .before .before in
     let a = start .args in
     let at = head .loop in
-    (ran-through (a .policy) (a .t1) (start .pre .0) (a .requests .now) (a .loadings .now) (a .first) (start .pre .1 .0) (a .end) (start .pre .1 .1) _ (at .slots) (at .s) (at .was) (at .mark) (at .time) (at .inv .3) (c .before .before .if1 .left) (c .before .if2 .left) (c .if4 .taken), at .inv .3 .painted)
+    (ran-through (a .policy) (a .t1) (start .pre .0) (a .requests .now) (a .loadings .now) (a .first) (start .pre .1 .0) (a .end) (start .pre .1 .1) _ (at .slots) (at .s) (at .was) (at .mark) (at .time) (at .inv .3) (c .before .before .before .if1 .left) (c .before .before .if2 .left) (c .before .if4 .taken), at .inv .3 .painted)
 
 loop2-holds : tie.Need-loop2-holds Inv-loop2 μ-loop2 Inv-loop μ-loop
 loop2-holds c =
