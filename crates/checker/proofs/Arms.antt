@@ -14,12 +14,13 @@ use lib.Seq.{getD-set-same, getD-set-other}
 use Rattle.rules.specs.declared.Executed.{Executed}
 use Rattle.rules.specs.declared.Loading.{Loading}
 use Rattle.rules.specs.declared.Table.{Table}
-use Rattle.rules.specs.Policies.{row}
+use Rattle.rules.specs.Policies.{policy, row}
 use Rattle.rules.specs.Slots as rules
 use Rattle.rules.specs.Slots.{newest, complete, loading, lengths}
 use Rattle.rules.specs.AsRun.{one, begins, asRun}
 use Rattle.basics.specs.Cases.{eq-case, clash}
 use Rattle.theory.specs.Counters.{until, newest-until}
+use Rattle.theory.specs.Rows.{frees}
 use Rattle.theory.specs.Jump.{whose, loads, Busy, gained, jump, newest-near}
 use Rattle.theory.specs.Completions.{Seen}
 use Rattle.slots.specs.Jobs.{never}
@@ -129,7 +130,7 @@ module _ (p : ℕ) (t : Table) (sound : Sound t) (xs zs : List ℕ) (u : ℕ) (l
       → (m : ℕ) → m ≡ worstIn s k → choices p t xs zs ≡ rules.stated (systemIn p t) → Seen (systemIn p t) k v m
   stays busy k h more m e c =
       let z : u + (v - u) ≡ v = omega (arith, near .after) in
-      let b = seen-on (systemIn p t) (periods p t sound xs zs u low s₀ a s r v near) u (v - u) (omega (arith, near .after)) (quiet-in p t sound xs zs u low s₀ a s r v near)
+      let b = seen-on (systemIn p t) (frees (policy p) (live t)) (periods p t sound xs zs u low s₀ a s r v near) u (v - u) (omega (arith, near .after)) (quiet-in p t sound xs zs u low s₀ a s r v near)
       (choices p t xs zs) c busy k (omega (arith, sound .count)) (worstIn s₀ k) (fine-in t sound k h .wcet-low) more (a .seen c k h) in
       rw (e ∙ ap (λ l. getD l k 0) (r .passed .worst)) (rw z at b)
 
@@ -303,7 +304,7 @@ module _ (p : ℕ) (t : Table) (sound : Sound t) (xs zs : List ℕ) (u : ℕ) (l
         ends-seen : choices p t xs zs ≡ rules.stated (systemIn p t) → Seen (systemIn p t) i v worst
         ends-seen c =
             let z : u + (v - u) ≡ v = omega (arith, near .after) in
-            let e = seen-end (systemIn p t) (periods p t sound xs zs u low s₀ a s r v near) u (v - u) (omega (arith, near .after)) (quiet-in p t sound xs zs u low s₀ a s r v near)
+            let e = seen-end (systemIn p t) (frees (policy p) (live t)) (periods p t sound xs zs u low s₀ a s r v near) u (v - u) (omega (arith, near .after)) (quiet-in p t sound xs zs u low s₀ a s r v near)
             (choices p t xs zs) c task-busy i in-rows (worstIn s₀ i) has (omega (arith, own-all)) (a .seen c i below) in
             let m = took ∙ ap (λ l. max (getD l i 0) (row (live t) i .period - min (releaseIn s i / 16 - v) 4294967295)) (r .passed .worst) ∙ ap (max (worstIn s₀ i)) (sym response) in
             rw m (rw z at e)

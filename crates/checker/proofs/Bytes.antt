@@ -10,10 +10,11 @@ use borrow.Author.Tests.{lt-ltb, le-ltb}
 use lib.Dec.{eqb, ltb, eqb·suc-zero}
 use lib.ListN.{length}
 use Rattle.rules.specs.declared.Table.{Table}
-use Rattle.rules.specs.Policies.{System, row}
+use Rattle.rules.specs.Policies.{System, policy, row}
 use Rattle.rules.specs.Schedules.{idByte, kindByte}
 use Rattle.basics.specs.Cases.{eq-case}
-use Rattle.theory.specs.Jump.{whose, loads, Quiet, Busy, inside}
+use Rattle.theory.specs.Rows.{frees}
+use Rattle.theory.specs.Jump.{whose, loads, Quiet, Busy, free-firm, inside}
 use Rattle.checker.specs.Paint.{Painted, stretchId, stretchKind}
 use Rattle.checker.specs.Machine.{live, Sound, systemIn, choices, PaintedRun}
 use Rattle.checker.proofs.SoundTables.{fine-in}
@@ -45,7 +46,7 @@ module _ (p : ℕ) (t : Table) (sound : Sound t) (xs zs : List ℕ) (u v : ℕ) 
       (λ e. rw (← e) (sym who, omega (arith, to-load)))
       (λ e.
       let g : u + suc (x - suc u) ≡ x = omega arith in
-      let m = rw g at (inside (systemIn p t) rows (choices p t xs zs) u (x - suc u) (λ i w l a b. quiet i w l a (omega arith)) (λ j z. omega (arith, busy j z))) in
+      let m = rw g at (inside (systemIn p t) rows (choices p t xs zs) u (x - suc u) (λ i w l a b. quiet i w l a (omega arith)) (λ j z. omega (arith, busy j z)) (free-firm (systemIn p t) (frees (policy p) (live t)) (choices p t xs zs) u (loads (systemIn p t) (choices p t xs zs) u) (suc (x - suc u)))) in
       (m .0 ∙ sym who, omega (arith, m .1, to-load)))
 
   one-byte : (i : ℕ) → at ≡ suc i → id % 256 ≡ row (live t) i .id

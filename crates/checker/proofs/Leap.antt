@@ -8,13 +8,15 @@ use native.Mathlib.Omega.{arith}
 use lib.Dec.{leb}
 use lib.ListN.{drop, length}
 use Rattle.rules.specs.declared.Table.{Table}
-use Rattle.rules.specs.Policies.{System, row}
+use Rattle.rules.specs.Policies.{System, policy, row}
 use Rattle.rules.specs.Slots as rules
 use Rattle.rules.specs.Slots.{newest, due, complete, joins}
 use Rattle.rules.specs.AsRun.{one, before, begins, asRun}
 use Rattle.basics.specs.Cases.{le-case, eq-case}
 use Rattle.theory.specs.Counters.{until}
-use Rattle.theory.specs.Jump.{now, whose, loads, Quiet, Busy, Alike, gained, jump, event, quiet-until, quiet-due, until-falls}
+use Rattle.theory.specs.Times.{Free}
+use Rattle.theory.specs.Rows.{frees}
+use Rattle.theory.specs.Jump.{now, whose, loads, Quiet, Busy, free-firm, Alike, gained, jump, event, quiet-until, quiet-due, until-falls}
 use Rattle.theory.specs.Lists.{requests-next, loadings-next, requests-stay, loadings-stay}
 use Rattle.theory.specs.Completions.{Seen, seen-served, seen-other}
 use Rattle.slots.specs.Jobs.{never}
@@ -29,21 +31,21 @@ use Rattle.checker.proofs.Who.{begun-before, due-is}
 
 -- THE LONGEST RESPONSES, where the run is the schedule
 
-pub seen-on : (y : System) (pos : (i : ℕ) → i < y .tasks → 0 < y .row i .period) (u d : ℕ) → 0 < d → Quiet y u d → (c : ℕ → rules.Choice) → c ≡ rules.stated y
+pub seen-on : (y : System) (free : Free y) (pos : (i : ℕ) → i < y .tasks → 0 < y .row i .period) (u d : ℕ) → 0 < d → Quiet y u d → (c : ℕ → rules.Choice) → c ≡ rules.stated y
     → Busy (now y c u) (whose y c u) (loads y c u) (d - 1) → (k : ℕ) → k < y .tasks → (m : ℕ) → 0 < y .row k .wcet
     → (whose y c u ≡ suc k → now y c u .executed k + (d - loads y c u) < now y c u .need k) → Seen y k u m → Seen y k (u + d) m
-seen-on y pos u d some quiet c e = subst
+seen-on y free pos u d some quiet c e = subst
     (λ (c : ℕ → rules.Choice). Busy (now y c u) (whose y c u) (loads y c u) (d - 1) → (k : ℕ) → k < y .tasks → (m : ℕ) → 0 < y .row k .wcet
     → (whose y c u ≡ suc k → now y c u .executed k + (d - loads y c u) < now y c u .need k) → Seen y k u m → Seen y k (u + d) m)
-    (sym e) (λ busy k h m w more seen. seen-other y pos u d some quiet busy k h m w more seen)
+    (sym e) (λ busy k h m w more seen. seen-other y pos u d some quiet busy (free-firm y free (rules.stated y) u (loads y (rules.stated y) u) (d - 1)) k h m w more seen)
 
-pub seen-end : (y : System) (pos : (i : ℕ) → i < y .tasks → 0 < y .row i .period) (u d : ℕ) → 0 < d → Quiet y u d → (c : ℕ → rules.Choice) → c ≡ rules.stated y
+pub seen-end : (y : System) (free : Free y) (pos : (i : ℕ) → i < y .tasks → 0 < y .row i .period) (u d : ℕ) → 0 < d → Quiet y u d → (c : ℕ → rules.Choice) → c ≡ rules.stated y
     → Busy (now y c u) (whose y c u) (loads y c u) (d - 1) → (k : ℕ) → k < y .tasks → (m : ℕ)
     → whose y c u ≡ suc k → now y c u .need k ≤ now y c u .executed k + (d - loads y c u) → Seen y k u m → Seen y k (u + d) (max m (u + d - newest (y .row k) u))
-seen-end y pos u d some quiet c e = subst
+seen-end y free pos u d some quiet c e = subst
     (λ (c : ℕ → rules.Choice). Busy (now y c u) (whose y c u) (loads y c u) (d - 1) → (k : ℕ) → k < y .tasks → (m : ℕ)
     → whose y c u ≡ suc k → now y c u .need k ≤ now y c u .executed k + (d - loads y c u) → Seen y k u m → Seen y k (u + d) (max m (u + d - newest (y .row k) u)))
-    (sym e) (λ busy k h m has through seen. seen-served y pos u d some quiet busy k h m has through seen)
+    (sym e) (λ busy k h m has through seen. seen-served y pos u d some quiet busy (free-firm y free (rules.stated y) u (loads y (rules.stated y) u) (d - 1)) k h m has through seen)
 
 -- NOTHING HAPPENS before v
 
@@ -90,7 +92,7 @@ module _ (p : ℕ) (t : Table) (sound : Sound t) (xs zs : List ℕ) (u : ℕ) (l
 
     ended : Alike (length (live t)) (stateAt p t xs zs v) (jump (nowIn p t xs zs u) (whose (systemIn p t) (choices p t xs zs) u) (loads (systemIn p t) (choices p t xs zs) u) (v - u))
         × ((x : ℕ) → u < x → x < v → missAt p t xs zs x ≡ 0)
-    ended = let e = event (systemIn p t) periods (choices p t xs zs) u (v - u) some quiet-in busy calm-in in rw end at e
+    ended = let e = event (systemIn p t) periods (choices p t xs zs) u (v - u) some quiet-in busy (free-firm (systemIn p t) (frees (policy p) (live t)) (choices p t xs zs) u (loads (systemIn p t) (choices p t xs zs) u) (v - u - 1)) calm-in in rw end at e
 
     clean-after : (x : ℕ) → x < v → missAt p t xs zs x ≡ 0
     clean-after x h = le-case u x (λ e. eq-case u x (λ g. rw (← g) clear) (λ g. ended .1 x (omega arith) h)) (λ e. a .clean x e)
@@ -113,7 +115,7 @@ module _ (p : ℕ) (t : Table) (sound : Sound t) (xs zs : List ℕ) (u : ℕ) (l
     begun-after b h =
         let e : u + suc (v - u - 1) ≡ v = omega (arith, near .after) in
         let g : suc (v - u - 1) ≡ v - u = omega (arith, near .after) in
-        h ∙ sym (loadings-next (systemIn p t) periods xs zs u) ∙ sym (rw e at (loadings-stay (systemIn p t) periods xs zs u (v - u - 1) (rw g quiet-in) busy))
+        h ∙ sym (loadings-next (systemIn p t) periods xs zs u) ∙ sym (rw e at (loadings-stay (systemIn p t) periods xs zs u (v - u - 1) (rw g quiet-in) busy (free-firm (systemIn p t) (frees (policy p) (live t)) (choices p t xs zs) u (loads (systemIn p t) (choices p t xs zs) u) (v - u - 1))))
 
     -- task k after these slots
     pub record Moved (k : ℕ) (s′ : State) : Type 0 where

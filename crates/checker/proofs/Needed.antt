@@ -3,7 +3,6 @@
 -- the mark before, which settles it; or it went through, and then the slots needed exceed the allowance. `decide` uses one law for
 -- each of the three.
 use mathlib.Core.Path.{_≡_, refl, sym, ap, _∙_}
-use mathlib.Core.Logic.{inl, inr}
 use mathlib.Core.Bool.{true, false}
 use mathlib.Core.List.{List, []}
 use Prim.Native.Nat.{ℕ, suc, _+_, _-_, _≤_, _<_, min, pred}
@@ -14,15 +13,15 @@ use Rattle.rules.specs.declared.Verdict.the-variants.{Accepted, Missed, Undecid
 use Rattle.rules.specs.Table.{noRow, omax, hyper}
 use Rattle.rules.specs.Policies as policies
 use Rattle.rules.specs.Slots as rules
-use Rattle.rules.specs.Decided.{Same, missedAt, NeverMissed, Equal, SlotsNeeded}
-use Rattle.rules.specs.Verdicts.{plain}
+use Rattle.rules.specs.Decided.{Same, missedAt, Equal}
+use Rattle.rules.specs.Verdicts.{missedId, Decides}
 use Rattle.basics.specs.Cases.{le-case, clash}
 use Rattle.theory.specs.Policies.{policy-repeats}
 use Rattle.theory.specs.Times.{Short, Turn}
 use Rattle.theory.specs.AsRun.{listed-nothing}
 use Rattle.theory.specs.Decides.{Within}
 use Rattle.theory.specs.Rows as rows
-use Rattle.theory.specs.Repetition.{never-missed}
+use Rattle.theory.specs.Ends.{end-missed, end-through, end-settled}
 use Rattle.theory.specs.Completions.{seen-worst}
 use Rattle.checker.specs.declared.machine.Stop.{Stop}
 use Rattle.checker.specs.Machine.{live, Sound, systemIn, choices, missAt, markOf, SameAt, Repeats, Ran}
@@ -68,16 +67,19 @@ module _ (p : ℕ) (t : Table) (g : Sound t) where
 
   -- THE RUN up to the allowance a, or up to 2^48
   module _ (a : ℕ) (q : Stop) (ran : Ran p t [] [] (t .omax) (min a 281474976710656) q) where
+    clean : (v : ℕ) → v < q .time → missedAt (systemIn p t) (rules.stated (systemIn p t)) v ≡ 0
+    clean v h = sym (miss-stated p t v) ∙ ran .clean v h
+
     pub missed-end : (i : ℕ) → 0 < q .miss → i ≡ getD (t .rows) (q .miss - 1) noRow .id
         → Outcomes p t a (record { verdict = Missed (q .time) i; worst = q .worst })
-    missed-end i some its = record {
-      decides = (
-        record { misses = λ e. omega (arith, ran .miss, miss-stated p t (q .time)); before = λ v h. sym (miss-stated p t v) ∙ ran .clean v h },
-        omega (arith, ran .most),
-        its ∙ id-in t g (q .miss) some (ran .task) ∙ ap (λ (m : ℕ). policies.row (live t) (pred m) .id) (ran .miss ∙ miss-stated p t (q .time)),
-      );
-      worst = λ n e. clash (ap acceptedOf e) refl;
-    }
+    missed-end i some its =
+        let same = ran .miss ∙ miss-stated p t (q .time) in
+        let id : i ≡ missedId (systemIn p t) (rules.stated (systemIn p t)) (q .time) =
+        its ∙ id-in t g (q .miss) some (ran .task) ∙ ap (λ (m : ℕ). policies.row (live t) (pred m) .id) same in
+        record {
+          decides = rw id (end-missed (systemIn p t) (omax (live t)) (hyper (live t)) a (q .time) (omega (arith, ran .most)) (λ e. omega (arith, same)) clean);
+          worst = λ n e. clash (ap acceptedOf e) refl;
+        }
 
     -- it stopped at a mark with the state of the mark before: `from`
     module _ (none : q .miss ≡ 0) (again : q .repeats ≡ true) where
@@ -93,40 +95,30 @@ module _ (p : ℕ) (t : Table) (g : Sound t) where
       equal : Equal (systemIn p t) (t .omax) (t .hyper) (stop .k)
       equal = equal-stated p t (stop .k) (stop .same)
 
-      same : Same (systemIn p t .tasks) (rules.schedule (systemIn p t) from) (rules.schedule (systemIn p t) (from + t .hyper))
-      same = rw next at equal
-
-      offsets : (i : ℕ) → policies.row (live t) i .offset ≤ from
-      offsets i = omega (arith, within-in .offsets i)
-
-      never : NeverMissed (systemIn p t)
-      never = never-missed (systemIn p t) short-in (t .hyper) turn-in (within-in .some) from offsets same
-          (λ v h. sym (miss-stated p t v) ∙ ran .clean v (omega (arith, stop .mark)))
+      settles : Decides (systemIn p t) (t .omax) (t .hyper) a (Accepted (markOf t (suc (stop .k))))
+      settles = end-settled (systemIn p t) short-in (t .omax) (t .hyper) turn-in (within-in .some) (within-in .offsets) a (stop .k)
+          (omega (arith, ran .most, stop .mark)) equal (λ i h e. stop .apart i h (stated-equal p t i e))
+          (λ v h. clean v (omega (arith, stop .mark)))
 
       pub accepted-end : Outcomes p t a (record { verdict = Accepted (q .time); worst = q .worst })
       accepted-end = record {
-        decides = rw (← g .omax, ← g .hyper) (
-          record { never = never; k = stop .k; equal = equal; least = λ i h e. stop .apart i h (stated-equal p t i e); number = stop .mark },
-          omega (arith, ran .most),
-        );
-        worst = λ n e i low. seen-worst (systemIn p t) short-in (t .hyper) turn-in (within-in .some) from offsets same never i (omega (arith, g .count))
+        decides = rw (stop .mark, ← g .omax, ← g .hyper) settles;
+        worst = λ n e i low. seen-worst (systemIn p t) short-in (t .hyper) turn-in (within-in .some) from (λ j. omega (arith, within-in .offsets j))
+            (rw next at equal) (settles .0 .never) i (omega (arith, g .count))
             (deadline-some t g i low) (getD (q .worst) i 0) (rw (stop .mark ∙ next) at (ran .seen none (as-stated p t) i low));
       }
 
-    -- it went through: neither a miss nor an equal state is within it
+    -- it went through: neither a miss nor an equal state is within it, and 2^48 slots always decide
     module _ (none : q .miss ≡ 0) (apart : q .repeats ≡ false) where
-      exceeds : (n : ℕ) → SlotsNeeded (systemIn p t) (t .omax) (t .hyper) plain n → q .time < n
-      exceeds n (inl m) = le-case n (q .time) (λ h. absurd (m .misses (sym (miss-stated p t n) ∙ clean-upto ran none n h))) (λ h. h)
-      exceeds n (inr s) = le-case (markOf t (suc (s .k))) (q .time)
-          (λ h. absurd (ran .apart apart none refl (s .k) (omega (arith, ran .most)) (stated-equal p t (s .k) (s .equal))))
-          (λ h. omega (arith, s .number))
+      through : Decides (systemIn p t) (omax (live t)) (hyper (live t)) (q .time) Undecided
+      through = rw (← g .omax, ← g .hyper) (end-through (systemIn p t) (t .omax) (t .hyper) (q .time)
+          (λ v h. sym (miss-stated p t v) ∙ clean-upto ran none v h)
+          (λ i h e. ran .apart apart none refl i (omega (arith, ran .most)) (stated-equal p t i e)))
 
       pub undecided-end : Outcomes p t a (record { verdict = Undecided; worst = q .worst })
       undecided-end =
-          let needed = rows.needed (policies.policy p) (policy-repeats p) (live t) (valid t g) in
-          let most = rows.at-most (policies.policy p) (policy-repeats p) (live t) (valid t g) _ needed in
-          let least : (n : ℕ) → SlotsNeeded (systemIn p t) (omax (live t)) (hyper (live t)) plain n → q .time < n = rw (← g .omax, ← g .hyper) exceeds in
+          let most = rows.at-most (policies.policy p) (policy-repeats p) (live t) (valid t g) in
           record {
-            decides = (_, needed, omega (arith, most, least _ needed, ran .through apart none));
+            decides = λ n s. omega (arith, most n s, through n s, ran .through apart none);
             worst = λ n e. clash (ap acceptedOf e) refl;
           }

@@ -14,6 +14,8 @@ use Rattle.rules.specs.Slots.{newest, complete, pick, rank}
 use Rattle.basics.specs.Cases.{test}
 use Rattle.theory.specs.Runs.{incomplete}
 use Rattle.theory.specs.Counters.{newest-until}
+use Rattle.theory.specs.Free.{free-pick}
+use Rattle.theory.specs.Rows.{frees}
 use Rattle.theory.specs.Jump.{whose, pick-is, newest-near}
 use Rattle.reordering.specs.Passed.{Fine}
 use Rattle.slots.specs.Jobs.{never, keyOf}
@@ -69,7 +71,7 @@ module _ (p : ℕ) (t : Table) (sound : Sound t) (xs zs : List ℕ) (u : ℕ) (l
 
   -- no job is left
   pub who-none : s .best ≡ never → whose (systemIn p t) (choices p t xs zs) u ≡ 0
-  who-none e = ap (pick (rank (systemIn p t) u) (complete (nowIn p t xs zs u))) (sound .count)
+  who-none e = free-pick (systemIn p t) (frees (policy p) (live t)) u (nowIn p t xs zs u) ∙ ap (pick (rank (systemIn p t) u) (complete (nowIn p t xs zs u))) (sound .count)
       ∙ pick-is (rank (systemIn p t) u) (complete (nowIn p t xs zs u)) (t .count) 0
       (λ k h. test (complete (nowIn p t xs zs u) k) (λ c. c) (λ c. absurd (omega (arith, e, r .passed .best .low k h, key-is k h c, key-low k h c))))
 
@@ -88,7 +90,7 @@ module _ (p : ℕ) (t : Table) (sound : Sound t) (xs zs : List ℕ) (u : ℕ) (l
           let i : s .best % 16 ≡ x .0 = tag-parts (s .best) (rank (systemIn p t) u (x .0)) (x .0) b (omega (arith, x .1, count-top t sound)) .1 in
           rw i (
             x .1,
-            ap (pick (rank (systemIn p t) u) (complete (nowIn p t xs zs u))) (sound .count)
+            free-pick (systemIn p t) (frees (policy p) (live t)) u (nowIn p t xs zs u) ∙ ap (pick (rank (systemIn p t) u) (complete (nowIn p t xs zs u))) (sound .count)
                 ∙ pick-is (rank (systemIn p t) u) (complete (nowIn p t xs zs u)) (t .count) (suc (x .0)) (
                   x .1,
                   c,

@@ -12,7 +12,7 @@ use borrow.Author.Tests.{le-leb, lt-leb, eqb-true, eq-eqb}
 use lib.Dec.{eqb}
 use Rattle.rules.specs.declared.Row.{Row}
 use Rattle.rules.specs.Policies.{System}
-use Rattle.rules.specs.Slots.{State, Choice, complete, released, newest, rank, requests, run, stated, schedule, onTime}
+use Rattle.rules.specs.Slots.{State, Choice, complete, released, newest, order, requests, run, stated, schedule, onTime}
 use Rattle.rules.specs.Decided.{Same, NeverMissed}
 use Rattle.rules.specs.Verdicts.{response, Worst}
 use Rattle.basics.specs.Cases.{test, le-case, eq-case, clash}
@@ -22,7 +22,7 @@ use Rattle.theory.specs.Times.{Short, Turn, released-again, released-fro
 use Rattle.theory.specs.Runs.{incomplete}
 use Rattle.theory.specs.Responses.{response-some, response-open, response-done, keeps-on, covers-done}
 use Rattle.theory.specs.Counters.{newest-released, newest-only}
-use Rattle.theory.specs.Jump.{now, whose, loads, Quiet, Busy, jumps, newest-near}
+use Rattle.theory.specs.Jump.{now, whose, loads, Quiet, Busy, Firm, firm-less, jumps, newest-near}
 
 -- RESPONSES
 
@@ -77,7 +77,8 @@ seen-start y i = record { most = λ r k. absurd (omega (arith, response-some y (
 
 -- ONE JUMP of d slots from t, and task i
 module _ (y : System) (pos : (i : ℕ) → i < y .tasks → 0 < y .row i .period) (t d : ℕ) (some : 0 < d) (quiet : Quiet y t d)
-    (busy : Busy (now y (stated y) t) (whose y (stated y) t) (loads y (stated y) t) (d - 1)) (i : ℕ) (h : i < y .tasks) where
+    (busy : Busy (now y (stated y) t) (whose y (stated y) t) (loads y (stated y) t) (d - 1))
+    (firm : Firm y t (now y (stated y) t) (whose y (stated y) t) (loads y (stated y) t) (d - 1)) (i : ℕ) (h : i < y .tasks) where
   -- its row; the state at t once jobs have joined; the loading that the slots begin with
   abbrev w : Row
   w = y .row i
@@ -92,7 +93,7 @@ module _ (y : System) (pos : (i : ℕ) → i < y .tasks → 0 < y .row i .period
   stays-open : (k : ℕ) → k < d → complete s i ≡ false → (whose y (stated y) t ≡ suc i → s .executed i + (suc k - l) < s .need i)
       → complete (schedule y (t + suc k)) i ≡ false
   stays-open k a e b =
-      let m = jumps y pos (stated y) t k (λ j u f p q. quiet j u f p (omega arith)) (λ j p. omega (arith, busy j p)) in
+      let m = jumps y pos (stated y) t k (λ j u f p q. quiet j u f p (omega arith)) (λ j p. omega (arith, busy j p)) (firm-less y t s (whose y (stated y) t) l k (d - 1) (omega arith) firm) in
       rw (m .need i h, m .executed i h) (test (eqb (whose y (stated y) t) (suc i))
       (λ q. rw q (lt-leb (s .need i) (s .executed i + (suc k - l)) (b (eqb-true (whose y (stated y) t) (suc i) q))))
       (λ q. rw (q, add-zero (s .executed i)) e))
@@ -121,7 +122,7 @@ module _ (y : System) (pos : (i : ℕ) → i < y .tasks → 0 < y .row i .period
     r = newest w t
 
     open-now : complete s i ≡ false
-    open-now = (rw has at (pick-first (rank y t) (complete s) (y .tasks))) .1
+    open-now = (rw has at (pick-first (order y t s) (complete s) (y .tasks))) .1
 
     begun : w .offset ≤ t
     begun = incomplete y (stated y) t i open-now
@@ -139,7 +140,7 @@ module _ (y : System) (pos : (i : ℕ) → i < y .tasks → 0 < y .row i .period
     done-then : complete (schedule y (t + d)) i ≡ true
     done-then =
         let e : suc (d - 1) ≡ d = omega arith in
-        let m = rw e at (jumps y pos (stated y) t (d - 1) (λ j u f p q. quiet j u f p (omega arith)) busy) in
+        let m = rw e at (jumps y pos (stated y) t (d - 1) (λ j u f p q. quiet j u f p (omega arith)) busy firm) in
         rw (m .need i h, m .executed i h, eq-eqb (whose y (stated y) t) (suc i) has) (le-leb (s .need i) (s .executed i + (d - l)) through)
 
     -- were it complete at u, it would be so at t

@@ -15,7 +15,7 @@ use Rattle.rules.specs.Decided.{Same, missedAt, EarliestMiss, Equal, Settles, S
 use Rattle.rules.specs.Verdicts.{plain}
 use Rattle.basics.specs.Cases.{le-case, eq-case, clash, both-true, upto}
 use Rattle.basics.specs.Search.{lowest-below, lowest-holds, lowest-top, lowest-falls}
-use Rattle.theory.specs.Times.{Quick, Short, Turn}
+use Rattle.theory.specs.Times.{Free, Quick, Short, Turn}
 use Rattle.theory.specs.Runs.{full}
 use Rattle.theory.specs.Repetition.{never-missed}
 use Rattle.theory.specs.Falls.{sane, weight, weight-top, falls}
@@ -88,7 +88,7 @@ module _ (y : System) where
   slots-one o h cap n m (inr a) (inr b) = settles-one o h cap n m a b
 
 -- ONE, AND IT COMPUTES
-module _ (y : System) (quick : Quick y) (short : Short y) (o h : ℕ) (turn : Turn y h) (l : Within y o h) where
+module _ (y : System) (free : Free y) (quick : Quick y) (short : Short y) (o h : ℕ) (turn : Turn y h) (l : Within y o h) where
   next : (k : ℕ) → o + suc k * h ≡ o + k * h + h
   next k = omega arith
 
@@ -97,7 +97,7 @@ module _ (y : System) (quick : Quick y) (short : Short y) (o h : ℕ) (turn : Tu
 
   lighter : (k : ℕ) → equalb y o h k ≡ false → heavy (suc k) < heavy k
   unfolding heavy
-  lighter k e = rw (next k) (falls y quick h turn (l .starts) (o + k * h) (λ m. equalb-not y o h k e (rw (next k) m)))
+  lighter k e = rw (next k) (falls y free quick h turn (l .starts) (o + k * h) (λ m. equalb-not y o h k e (rw (next k) m)))
 
   heavy-first : heavy 0 ≤ 1600330001
   unfolding heavy

@@ -13,7 +13,7 @@ use Rattle.rules.specs.Decided.{NeverMissed, missedAt}
 use Rattle.rules.specs.Demands.{HasHad, KeepsTime}
 use Rattle.theory.specs.Uniform.{run-next}
 use Rattle.theory.specs.Order.{pick-first}
-use Rattle.theory.specs.Times.{Quick, Short, released-alone, is-due}
+use Rattle.theory.specs.Times.{Free, Quick, Short, released-alone, is-due}
 use Rattle.theory.specs.Runs.{finishes, demand-3}
 
 -- until its successor's release a job is to have what it asked for at its own
@@ -39,11 +39,11 @@ module _ (y : System) (c : ℕ → Choice) (i r : ℕ) (job : released (y .row i
 none-missed : (y : System) (c : ℕ → Choice) (t i : ℕ) → i < y .tasks → missedAt y c t ≡ 0 → due (y .row i) t ≡ true → complete (run y c t) i ≡ true
 none-missed y c t i h e d = rw d at ((rw e at (pick-first (λ j. 0) (onTime y t (run y c t)) (y .tasks))) i h)
 
-pub keeps-time : (y : System) → Quick y → Short y → ((i : ℕ) → i < y .tasks → 0 < y .row i .deadline) → NeverMissed y → (c : ℕ → Choice) → KeepsTime y c
-keeps-time y quick short some never c = record {
+pub keeps-time : (y : System) → Free y → Quick y → Short y → ((i : ℕ) → i < y .tasks → 0 < y .row i .deadline) → NeverMissed y → (c : ℕ → Choice) → KeepsTime y c
+keeps-time y free quick short some never c = record {
   deadline = λ i r h job. complete-had y c i r job (r + y .row i .deadline) (omega (arith, some i h)) (omega (arith, short i))
-      (none-missed y c (r + y .row i .deadline) i h (demand-3 y quick c never (r + y .row i .deadline)) (ends i r job));
-  sooner = λ i r u h job a b had. complete-had y c i r job u a b (finishes y quick c u i (had-complete y (stated y) i r job u a b had));
+      (none-missed y c (r + y .row i .deadline) i h (demand-3 y free quick c never (r + y .row i .deadline)) (ends i r job));
+  sooner = λ i r u h job a b had. complete-had y c i r job u a b (finishes y free quick c u i (had-complete y (stated y) i r job u a b had));
 }
   where
     ends : (i r : ℕ) → released (y .row i) r ≡ true → due (y .row i) (r + y .row i .deadline) ≡ true

@@ -128,7 +128,7 @@ module _ (c : ℕ → ℕ) (load : ℕ → ℕ → ℕ) (a b : State) (d : Dom c
       q = pick s (complete b) n
 
       both : (j : ℕ) → q ≡ suc j → complete a j ≡ false → p ≡ suc j
-      both j e h = agree r s (complete a) (complete b) n (λ i z. dom-done i) like p j (pick-first r (complete a) n) (rw e at (pick-first s (complete b) n)) h
+      both j e h = agree r s (complete a) (complete b) n (λ i z. dom-done i) (λ i j u v. like i j) p j (pick-first r (complete a) n) (rw e at (pick-first s (complete b) n)) h
 
       less : (j : ℕ) → q ≡ suc j → complete a j ≡ false → loading la a p ≤ loading lb b q
       less j e h = rw (both j e h, e) (loading-le anti la lb low high j h)

@@ -10,13 +10,13 @@ use borrow.Author.Tests.{leb-true, leb-false, eqb-true}
 use lib.Dec.{eqb, eqb·suc-zero}
 use Rattle.rules.specs.declared.Row.{Row}
 use Rattle.rules.specs.Policies.{System}
-use Rattle.rules.specs.Slots.{State, Choice, complete, release, pick, loading, delay, joins, rank, requests, lengths, joined, run, stated, schedule}
+use Rattle.rules.specs.Slots.{State, Choice, complete, release, pick, loading, delay, joins, order, requests, lengths, joined, run, stated, schedule}
 use Rattle.rules.specs.Decided.{Same}
 use Rattle.basics.specs.Cases.{test, eq-case, both-true, upto}
 use Rattle.theory.specs.Uniform.{uniform, run-next}
 use Rattle.theory.specs.Order.{First, pick-first}
 use Rattle.theory.specs.Domination.{dropped-is}
-use Rattle.theory.specs.Times.{Quick, Turn}
+use Rattle.theory.specs.Times.{Free, Quick, Turn}
 use Rattle.theory.specs.Runs.{Ahead, cousins, full}
 
 -- WHAT A STATE BETWEEN SLOTS IS LIKE: nobody has executed more than is needed; the last job is an incomplete one; with no
@@ -54,9 +54,9 @@ unfolding run
 sane y c zero = record { within = λ i. omega arith; current = λ j e. absurd (omega arith); rest = λ e. refl }
 sane y c (suc t) =
     let s = joined y (c t) t (run y c t) in
-    let p = pick (rank y t) (complete s) (y .tasks) in
-    rw (run-next y c t) (sane-slot (rank y t) (y .tasks) s p (loading (lengths y (c t)) s p) (within-release (joins y t) (requests y (c t)) (run y c t) (sane y c t .within))
-    (pick-first (rank y t) (complete s) (y .tasks)) (loading-none (lengths y (c t)) s p))
+    let p = pick (order y t s) (complete s) (y .tasks) in
+    rw (run-next y c t) (sane-slot (order y t s) (y .tasks) s p (loading (lengths y (c t)) s p) (within-release (joins y t) (requests y (c t)) (run y c t) (sane y c t .within))
+    (pick-first (order y t s) (complete s) (y .tasks)) (loading-none (lengths y (c t)) s p))
 
 -- sums over the tasks
 unfoldable pub total : (ℕ → ℕ) → ℕ → ℕ
@@ -97,9 +97,9 @@ delay-top : (w : Row) → w .resume ≤ w .start → (m : ℕ) → delay w m ≤
 delay-top w q zero = omega arith
 delay-top w q (suc m) = q
 
-module _ (y : System) (quick : Quick y) (h : ℕ) (turn : Turn y h) (loads : (i : ℕ) → y .row i .start ≤ 10000) (t : ℕ) where
+module _ (y : System) (free : Free y) (quick : Quick y) (h : ℕ) (turn : Turn y h) (loads : (i : ℕ) → y .row i .start ≤ 10000) (t : ℕ) where
   lead : Ahead y (schedule y t) (schedule y (t + h))
-  lead = cousins y quick h turn t
+  lead = cousins y free quick h turn t
 
   pub ran-falls : (i : ℕ) → schedule y (t + h) .executed i ≤ schedule y t .executed i
   ran-falls i = test (complete (schedule y t) i)

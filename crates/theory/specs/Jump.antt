@@ -1,8 +1,10 @@
 -- THE JUMP: from the state at t with its jobs joined, m slots up to the next release or the completion of the task that has the slot
--- are one step in closed form. Its executed slots rise by m − l, where l is the loading to do (0 if that is negative), its loading
--- falls by m, and nothing else moves: one form for idle, loading, executing, and loading that turns into executing, for any run and any
--- key. Nothing is missed in between but at the deadline of an incomplete job. The checker's loop goes by it.
+-- are one step in closed form; and, if that task does not go first by policy, up to where it may be preempted. Its executed slots rise
+-- by m − l, where l is the loading to do (0 if that is negative), its loading falls by m, and nothing else moves: one form for idle,
+-- loading, executing, and loading that turns into executing, for any run and any key. Nothing is missed in between but at the
+-- deadline of an incomplete job. The checker's loop goes by it.
 use mathlib.Core.Path.{_≡_, refl, sym, ap, _∙_}
+use mathlib.Core.Logic.{_⊎_, inl, inr, _≢_}
 use mathlib.Core.Bool.{Bool, true, false, cond, _&&_}
 use Prim.Native.Nat.{ℕ, zero, suc, _+_, _-_, _≤_, _<_, pred}
 use native.Mathlib.Nat.{add-zero, add-suc, mod-self}
@@ -11,12 +13,13 @@ use borrow.Author.Tests.{lt-leb, eqb-true, eqb-false, eq-eqb, ne-eqb}
 use lib.Dec.{leb, eqb}
 use Rattle.rules.specs.declared.Row.{Row}
 use Rattle.rules.specs.Policies.{System}
-use Rattle.rules.specs.Slots.{toLoad, State, Choice, complete, unless, release, pick, loading, released, newest, due, joins, rank, lengths, joined, run, who, onTime, missed}
-use Rattle.basics.specs.Cases.{test, le-case, clash}
+use Rattle.rules.specs.Slots.{toLoad, State, Choice, complete, unless, release, pick, loading, released, newest, due, joins, rank, underWay, order, lengths, joined, run, who, onTime, missed}
+use Rattle.basics.specs.Cases.{test, le-case, eq-case, clash}
 use Rattle.theory.specs.Uniform.{bit, served, uniform, act, run-next}
 use Rattle.theory.specs.Order.{First, pick-first, agree-all}
 use Rattle.theory.specs.Domination.{was}
-use Rattle.theory.specs.Times.{released-again, released-from}
+use Rattle.theory.specs.Free.{free-pick}
+use Rattle.theory.specs.Times.{Free, released-again, released-from}
 use Rattle.theory.specs.Runs.{keeps, incomplete}
 use Rattle.theory.specs.Counters.{until, released-until, newest-released, newest-only, newest-until, due-newest}
 
@@ -43,21 +46,53 @@ pub record Alike (n : ℕ) (a b : State) : Type 0 where
 -- ON THE MACHINE
 
 pub pick-is : (r : ℕ → ℕ) (d : ℕ → Bool) (n p : ℕ) → First r d n p → pick r d n ≡ p
-pick-is r d n p f = agree-all r r d d n (λ i h e. e) (λ i j u v. (λ e. e, λ e. e)) (λ i h e. e) (pick r d n) p (pick-first r d n) f
+pick-is r d n p f = agree-all r r d d n (λ i h e. e) (λ i j a b u v. (λ e. e, λ e. e)) (λ i h e. e) (pick r d n) p (pick-first r d n) f
 
 pub pick-none : (r : ℕ → ℕ) (d : ℕ → Bool) (n : ℕ) → ((i : ℕ) → i < n → d i ≡ true) → pick r d n ≡ 0
 pick-none r d n f = pick-is r d n 0 f
 
--- the first stays the first
-pub first-moves : (r s : ℕ → ℕ) (d e : ℕ → Bool) (n p : ℕ) → ((i : ℕ) → i < n → d i ≡ e i) → ((i : ℕ) → i < n → d i ≡ false → r i ≡ s i) → First r d n p → First s e n p
-first-moves r s d e n zero same ranks f = λ i h. sym (same i h) ∙ f i h
-first-moves r s d e n (suc j) same ranks f = (
-  f .0,
-  sym (same j (f .0)) ∙ f .1,
-  λ i h q.
-      let o = same i h ∙ q in
-      rw (← ranks i h o, ← ranks j (f .0) (f .1)) (f .2 i h o),
-)
+-- no chunk but that of the task that had the slot before is under way
+and-false : (b : Bool) → (b && false) ≡ false
+and-false true = refl
+and-false false = refl
+
+order-other : (y : System) (t : ℕ) (s : State) (i j : ℕ) → s .last ≡ suc j → i ≢ j → order y t s i ≡ suc (rank y t i)
+order-other y t s i j e differ = rw (ne-eqb (s .last) (suc i) (λ z. absurd (differ (omega arith))), and-false (y .held i (s .executed i))) refl
+
+order-free : (y : System) (t : ℕ) (s : State) (i : ℕ) → underWay y s i ≡ false → order y t s i ≡ suc (rank y t i)
+order-free y t s i e = rw e refl
+
+order-held : (y : System) (t : ℕ) (s : State) (i : ℕ) → underWay y s i ≡ true → order y t s i ≡ 0
+order-held y t s i e = rw e refl
+
+-- p goes before all others by policy
+abbrev pub ByRank : System → ℕ → State → ℕ → Type 0
+ByRank y t s p = First (rank y t) (complete s) (y .tasks) p
+
+-- whoever has the slot at t has it at u, if what is complete and the ranks of the others stay, and it goes first by policy at t or its
+-- chunk is under way at u
+first-on : (y : System) (t u : ℕ) (a b : State) (p : ℕ) → b .last ≡ p → ((i : ℕ) → i < y .tasks → complete a i ≡ complete b i)
+    → ((i : ℕ) → i < y .tasks → complete a i ≡ false → rank y t i ≡ rank y u i)
+    → ByRank y t a p ⊎ ((j : ℕ) → p ≡ suc j → y .held j (b .executed j) ≡ true)
+    → First (order y t a) (complete a) (y .tasks) p → First (order y u b) (complete b) (y .tasks) p
+first-on y t u a b zero last same ranks firm f = λ i h. sym (same i h) ∙ f i h
+first-on y t u a b (suc j) last same ranks firm f = (f .0, sym (same j (f .0)) ∙ f .1, λ i h q. before i h (same i h ∙ q))
+  where
+    by-rank : (i : ℕ) → i < y .tasks → complete a i ≡ false → underWay y b j ≡ false → ByRank y t a (suc j) ⊎ ((k : ℕ) → suc j ≡ suc k → y .held k (b .executed k) ≡ true)
+        → (rank y u j ≤ rank y u i) × (rank y u i ≤ rank y u j → j ≤ i)
+    by-rank i h e free (inl g) =
+        let r = ranks i h e in
+        let s = ranks j (f .0) (f .1) in
+        let k = g .2 i h e in
+        (omega (arith, k .0), λ z. k .1 (omega arith))
+    by-rank i h e free (inr g) = clash (rw (g j refl, eq-eqb (b .last) (suc j) last) refl) free
+
+    before : (i : ℕ) → i < y .tasks → complete a i ≡ false → (order y u b j ≤ order y u b i) × (order y u b i ≤ order y u b j → j ≤ i)
+    before i h e = eq-case i j
+        (λ z. rw z (omega arith, λ k. omega arith))
+        (λ z. let o = order-other y u b i j last z in test (underWay y b j)
+        (λ w. let x = order-held y u b j w in (omega arith, λ k. absurd (omega arith)))
+        (λ w. let x = order-free y u b j w in let g = by-rank i h e w firm in (omega (arith, g .0), λ k. g .1 (omega arith))))
 
 gain-none : (b : Bool) (l : ℕ) → cond b (0 - l) 0 ≡ 0
 gain-none true l = omega arith
@@ -150,6 +185,18 @@ Quiet y t m = (i u : ℕ) → i < y .tasks → t < u → u < t + m → released 
 abbrev pub Busy : State → ℕ → ℕ → ℕ → Type 0
 Busy s p l k = (j : ℕ) → p ≡ suc j → s .executed j + (k - l) < s .need j
 
+-- it goes first by policy, or its chunk is under way for k slots more
+abbrev pub Firm : System → ℕ → State → ℕ → ℕ → ℕ → Type 0
+Firm y t s p l k = ByRank y t s p ⊎ ((j : ℕ) → p ≡ suc j → (u : ℕ) → u ≤ k → y .held j (s .executed j + (u - l)) ≡ true)
+
+pub firm-less : (y : System) (t : ℕ) (s : State) (p l k m : ℕ) → k ≤ m → Firm y t s p l m → Firm y t s p l k
+firm-less y t s p l k m h (inl f) = inl f
+firm-less y t s p l k m h (inr f) = inr (λ j e u b. f j e u (omega arith))
+
+-- where a job may be preempted at any slot, it goes first by policy
+pub free-firm : (y : System) → Free y → (c : ℕ → Choice) (t l k : ℕ) → Firm y t (joined y (c t) t (run y c t)) (who y (c t) t (run y c t)) l k
+free-firm y free c t l k = inl (rw (free-pick y free t (joined y (c t) t (run y c t))) (pick-first (rank y t) (complete (joined y (c t) t (run y c t))) (y .tasks)))
+
 -- no release: jobs that join change nothing
 joined-quiet : (n : ℕ) (x : ℕ → Bool) (c : ℕ → ℕ) (a b : State) → ((i : ℕ) → i < n → x i ≡ false) → b .last ≤ n → Alike n a b → Alike n (release x c a) b
 joined-quiet n x c a b e h m = record { need = λ i k. rw (e i k) (m .need i k); executed = λ i k. rw (e i k) (m .executed i k); last = go (a .last) (m .last); left = m .left }
@@ -168,28 +215,34 @@ no-load load s p e = rw e refl
 module _ (y : System) (pos : (i : ℕ) → i < y .tasks → 0 < y .row i .period) (c : ℕ → Choice) (t : ℕ) where
   -- a slot later, from the closed form of those before; s, p, l are what they are at t: the same task has the slot, it is the
   -- last, and its loading has gone on
-  module _ (s : State) (p l k : ℕ) (f : First (rank y t) (complete s) (y .tasks) p) (idle : p ≡ 0 → l ≡ 0)
-      (begun : (i : ℕ) → i < y .tasks → complete s i ≡ false → y .row i .offset ≤ t) (quiet : Quiet y t (suc (suc k))) (busy : Busy s p l (suc k))
+  module _ (s : State) (p l k : ℕ) (f : First (order y t s) (complete s) (y .tasks) p) (idle : p ≡ 0 → l ≡ 0)
+      (begun : (i : ℕ) → i < y .tasks → complete s i ≡ false → y .row i .offset ≤ t) (quiet : Quiet y t (suc (suc k))) (busy : Busy s p l (suc k)) (firm : Firm y t s p l (suc k))
       (m : Alike (y .tasks) (run y c (t + suc k)) (jump s p l (suc k))) where
     stay : jump s p l (suc k) .last ≡ p
-    stay = last-stays (y .tasks) s p l (first-le (rank y t) (complete s) (y .tasks) p f) (suc k) p refl busy
+    stay = last-stays (y .tasks) s p l (first-le (order y t s) (complete s) (y .tasks) p f) (suc k) p refl busy
 
     later : Alike (y .tasks) (now y c (t + suc k)) (jump s p l (suc k))
     later = joined-quiet (y .tasks) (joins y (t + suc k)) _ (run y c (t + suc k)) (jump s p l (suc k)) (λ i h. quiet i (t + suc k) h (omega arith) (omega arith))
-        (omega (arith, stay, first-le (rank y t) (complete s) (y .tasks) p f)) m
+        (omega (arith, stay, first-le (order y t s) (complete s) (y .tasks) p f)) m
 
     same : (i : ℕ) → i < y .tasks → complete s i ≡ complete (now y c (t + suc k)) i
-    same i h = sym (jump-done (y .tasks) s p l (first-le (rank y t) (complete s) (y .tasks) p f) (suc k) busy i) ∙ (rw (later .need i h, later .executed i h))
+    same i h = sym (jump-done (y .tasks) s p l (first-le (order y t s) (complete s) (y .tasks) p f) (suc k) busy i) ∙ (rw (later .need i h, later .executed i h))
 
     ranks : (i : ℕ) → i < y .tasks → complete s i ≡ false → rank y t i ≡ rank y (t + suc k) i
     ranks i h e = ap (y .key i) (sym (newest-quiet (y .row i) (pos i h) t (suc k) (begun i h e) (λ v a b. quiet i v h a (omega arith))))
 
+    held-on : Firm y t s p l (suc k) → ByRank y t s p ⊎ ((j : ℕ) → p ≡ suc j → y .held j (now y c (t + suc k) .executed j) ≡ true)
+    held-on (inl g) = inl g
+    held-on (inr g) = inr (λ j e.
+        let below : j < y .tasks = omega (arith, first-le (order y t s) (complete s) (y .tasks) p f) in
+        rw (later .executed j below, eq-eqb p (suc j) e) (g j e (suc k) (omega arith)))
+
     picked : whose y c (t + suc k) ≡ p
-    picked = pick-is (rank y (t + suc k)) (complete (now y c (t + suc k))) (y .tasks) p
-        (first-moves (rank y t) (rank y (t + suc k)) (complete s) (complete (now y c (t + suc k))) (y .tasks) p same ranks f)
+    picked = pick-is (order y (t + suc k) (now y c (t + suc k))) (complete (now y c (t + suc k))) (y .tasks) p
+        (first-on y t (t + suc k) s (now y c (t + suc k)) p (later .last ∙ stay) same ranks (held-on firm) f)
 
     loaded : loading (lengths y (c (t + suc k))) (now y c (t + suc k)) p ≡ l - suc k
-    loaded = loading-more (y .tasks) s p l (first-le (rank y t) (complete s) (y .tasks) p f) (lengths y (c (t + suc k))) (now y c (t + suc k)) (suc k) p refl idle
+    loaded = loading-more (y .tasks) s p l (first-le (order y t s) (complete s) (y .tasks) p f) (lengths y (c (t + suc k))) (now y c (t + suc k)) (suc k) p refl idle
         (later .last ∙ stay) (later .left)
 
     goes-on : (whose y c (t + suc k) ≡ p) × (loads y c (t + suc k) ≡ l - suc k) × (now y c (t + suc k) .last ≡ p)
@@ -197,30 +250,30 @@ module _ (y : System) (pos : (i : ℕ) → i < y .tasks → 0 < y .row i .period
 
     more : Alike (y .tasks) (run y c (suc (t + suc k))) (jump s p l (suc (suc k)))
     more = rw (run-next y c (t + suc k), picked, loaded)
-        (slot-more (y .tasks) s p l (first-le (rank y t) (complete s) (y .tasks) p f) (now y c (t + suc k)) (suc k) (λ i h. later .need i h) (λ i h. later .executed i h))
+        (slot-more (y .tasks) s p l (first-le (order y t s) (complete s) (y .tasks) p f) (now y c (t + suc k)) (suc k) (λ i h. later .need i h) (λ i h. later .executed i h))
 
   -- THE JUMP
-  pub jumps : (k : ℕ) → Quiet y t (suc k) → Busy (now y c t) (whose y c t) (loads y c t) k
+  pub jumps : (k : ℕ) → Quiet y t (suc k) → Busy (now y c t) (whose y c t) (loads y c t) k → Firm y t (now y c t) (whose y c t) (loads y c t) k
       → Alike (y .tasks) (run y c (t + suc k)) (jump (now y c t) (whose y c t) (loads y c t) (suc k))
-  jumps zero quiet busy =
+  jumps zero quiet busy firm =
       let e : t + 1 ≡ suc t = omega arith in
-      rw (e, run-next y c t) (slot-first (y .tasks) (now y c t) (whose y c t) (loads y c t) (first-le (rank y t) (complete (now y c t)) (y .tasks) (whose y c t) (pick-first (rank y t) (complete (now y c t)) (y .tasks))))
-  jumps (suc k) quiet busy = rw (add-suc t (suc k)) (more (now y c t) (whose y c t) (loads y c t) k (pick-first (rank y t) (complete (now y c t)) (y .tasks))
-      (no-load (lengths y (c t)) (now y c t) (whose y c t)) (λ i h e. incomplete y c t i e) quiet busy
-      (jumps k (λ i u h a b. quiet i u h a (omega arith)) (λ j e. omega (arith, busy j e))))
+      rw (e, run-next y c t) (slot-first (y .tasks) (now y c t) (whose y c t) (loads y c t) (first-le (order y t (now y c t)) (complete (now y c t)) (y .tasks) (whose y c t) (pick-first (order y t (now y c t)) (complete (now y c t)) (y .tasks))))
+  jumps (suc k) quiet busy firm = rw (add-suc t (suc k)) (more (now y c t) (whose y c t) (loads y c t) k (pick-first (order y t (now y c t)) (complete (now y c t)) (y .tasks))
+      (no-load (lengths y (c t)) (now y c t) (whose y c t)) (λ i h e. incomplete y c t i e) quiet busy firm
+      (jumps k (λ i u h a b. quiet i u h a (omega arith)) (λ j e. omega (arith, busy j e)) (firm-less y t (now y c t) (whose y c t) (loads y c t) k (suc k) (omega arith) firm)))
 
   -- within it, the slot stays with the same task, which is the last, and its loading goes on
-  pub inside : (k : ℕ) → Quiet y t (suc (suc k)) → Busy (now y c t) (whose y c t) (loads y c t) (suc k)
+  pub inside : (k : ℕ) → Quiet y t (suc (suc k)) → Busy (now y c t) (whose y c t) (loads y c t) (suc k) → Firm y t (now y c t) (whose y c t) (loads y c t) (suc k)
       → (whose y c (t + suc k) ≡ whose y c t) × (loads y c (t + suc k) ≡ loads y c t - suc k) × (now y c (t + suc k) .last ≡ whose y c t)
-  inside k quiet busy = goes-on (now y c t) (whose y c t) (loads y c t) k (pick-first (rank y t) (complete (now y c t)) (y .tasks))
-      (no-load (lengths y (c t)) (now y c t) (whose y c t)) (λ i h e. incomplete y c t i e) quiet busy
-      (jumps k (λ i u h a b. quiet i u h a (omega arith)) (λ j e. omega (arith, busy j e)))
+  inside k quiet busy firm = goes-on (now y c t) (whose y c t) (loads y c t) k (pick-first (order y t (now y c t)) (complete (now y c t)) (y .tasks))
+      (no-load (lengths y (c t)) (now y c t) (whose y c t)) (λ i h e. incomplete y c t i e) quiet busy firm
+      (jumps k (λ i u h a b. quiet i u h a (omega arith)) (λ j e. omega (arith, busy j e)) (firm-less y t (now y c t) (whose y c t) (loads y c t) k (suc k) (omega arith) firm))
 
   -- what is complete stays so
   pub done-quiet : (k i : ℕ) → i < y .tasks → Quiet y t (suc k) → complete (now y c t) i ≡ true → complete (run y c (t + suc k)) i ≡ true
   done-quiet zero i h quiet e =
       let q : t + 1 ≡ suc t = omega arith in
-      rw (q, run-next y c t) (test (complete (act (y .tasks) (rank y t) (lengths y (c t)) (now y c t)) i) (λ z. z) (λ z. clash e (was (now y c t) (whose y c t) (loads y c t) i z)))
+      rw (q, run-next y c t) (test (complete (act (y .tasks) (order y t (now y c t)) (lengths y (c t)) (now y c t)) i) (λ z. z) (λ z. clash e (was (now y c t) (whose y c t) (loads y c t) i z)))
   done-quiet (suc k) i h quiet e = rw (add-suc t (suc k)) (keeps y c (t + suc k) i (quiet i (t + suc k) h (omega arith) (omega arith))
       (done-quiet k i h (λ j u a b d. quiet j u a b (omega arith)) e))
 
@@ -231,17 +284,17 @@ module _ (y : System) (pos : (i : ℕ) → i < y .tasks → 0 < y .row i .period
       (λ e. rw e (done-quiet k i h quiet (test (complete (now y c t) i) (λ z. z) (λ z. clash e (calm i h z)))))
       (λ e. rw e refl))
 
-  -- FOR A LOOP: m slots at once, up to the next release, the next deadline of an incomplete task, or the completion of the task
-  -- that has the slot; or any fewer
-  pub event : (m : ℕ) → 0 < m → Quiet y t m → Busy (now y c t) (whose y c t) (loads y c t) (m - 1)
+  -- FOR A LOOP: m slots at once, up to the next release, the next deadline of an incomplete task, the completion of the task that
+  -- has the slot, or the end of its chunk, if it does not go first by policy; or any fewer
+  pub event : (m : ℕ) → 0 < m → Quiet y t m → Busy (now y c t) (whose y c t) (loads y c t) (m - 1) → Firm y t (now y c t) (whose y c t) (loads y c t) (m - 1)
       → ((i v : ℕ) → i < y .tasks → complete (now y c t) i ≡ false → t < v → v < t + m → due (y .row i) v ≡ false)
       → Alike (y .tasks) (run y c (t + m)) (jump (now y c t) (whose y c t) (loads y c t) m) × ((v : ℕ) → t < v → v < t + m → missed y v (run y c v) ≡ 0)
-  event m some quiet busy calm = (first, λ v a b. between v a b)
+  event m some quiet busy firm calm = (first, λ v a b. between v a b)
     where
       first : Alike (y .tasks) (run y c (t + m)) (jump (now y c t) (whose y c t) (loads y c t) m)
       first =
           let e : suc (m - 1) ≡ m = omega arith in
-          rw e at (jumps (m - 1) (λ i u h a b. quiet i u h a (omega arith)) busy)
+          rw e at (jumps (m - 1) (λ i u h a b. quiet i u h a (omega arith)) busy firm)
 
       between : (v : ℕ) → t < v → v < t + m → missed y v (run y c v) ≡ 0
       between v a b =

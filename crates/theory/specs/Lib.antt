@@ -2,11 +2,13 @@ pub mod Order
 pub mod Uniform
 pub mod Domination
 pub mod Times
+pub mod Free
 pub mod Runs
 pub mod Repetition
 pub mod Falls
 pub mod Twin
 pub mod Decides
+pub mod Ends
 pub mod Responses
 pub mod Policies
 pub mod Rows

@@ -12,7 +12,7 @@ use Rattle.rules.specs.Policies.{System}
 use Rattle.rules.specs.Slots.{State, joins, joined, who}
 use Rattle.rules.specs.AsRun.{one, before, begins, asRun, listed}
 use Rattle.theory.specs.AsRun.{as-run}
-use Rattle.theory.specs.Jump.{now, whose, loads, Quiet, Busy, inside}
+use Rattle.theory.specs.Jump.{now, whose, loads, Quiet, Busy, Firm, firm-less, inside}
 
 before-none : (joins : ℕ → Bool) (n : ℕ) → ((i : ℕ) → i < n → joins i ≡ false) → before joins n ≡ 0
 before-none joins zero h = refl
@@ -44,9 +44,9 @@ module _ (y : System) (pos : (i : ℕ) → i < y .tasks → 0 < y .row i .period
         (requests-stay k (λ i u h a b. quiet i u h a (omega arith)))
 
     pub loadings-stay : (k : ℕ) → Quiet y t (suc k) → Busy (now y (listed y xs zs) t) (whose y (listed y xs zs) t) (loads y (listed y xs zs) t) k
-        → asRun y xs zs (t + suc k) .loadings ≡ asRun y xs zs (suc t) .loadings
-    loadings-stay zero quiet busy = let e : t + 1 ≡ suc t = omega arith in rw e
-    loadings-stay (suc k) quiet busy =
-        let m = inside y pos (listed y xs zs) t k quiet busy in
+        → Firm y t (now y (listed y xs zs) t) (whose y (listed y xs zs) t) (loads y (listed y xs zs) t) k → asRun y xs zs (t + suc k) .loadings ≡ asRun y xs zs (suc t) .loadings
+    loadings-stay zero quiet busy firm = let e : t + 1 ≡ suc t = omega arith in rw e
+    loadings-stay (suc k) quiet busy firm =
+        let m = inside y pos (listed y xs zs) t k quiet busy firm in
         rw (add-suc t (suc k), loadings-next (t + suc k), begins-none y (now y (listed y xs zs) (t + suc k)) (whose y (listed y xs zs) (t + suc k)) (m .2 ∙ sym (m .0)))
-        (loadings-stay k (λ i u h a b. quiet i u h a (omega arith)) (λ j e. omega (arith, busy j e)))
+        (loadings-stay k (λ i u h a b. quiet i u h a (omega arith)) (λ j e. omega (arith, busy j e)) (firm-less y t (now y (listed y xs zs) t) (whose y (listed y xs zs) t) (loads y (listed y xs zs) t) k (suc k) (omega arith) firm))

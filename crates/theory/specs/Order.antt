@@ -37,7 +37,7 @@ pick-first r d (suc n) = test (d n)
 -- Two picks, by r among what x leaves and by s among what y leaves. What is done in y is done in x; on what is left in x
 -- the orders agree. Then the two agree, unless x has done what y picks.
 module _ (r s : ℕ → ℕ) (x y : ℕ → Bool) (n : ℕ) (more : (i : ℕ) → i < n → y i ≡ true → x i ≡ true)
-    (like : (i j : ℕ) → x i ≡ false → x j ≡ false → (r i ≤ r j) ↔ (s i ≤ s j)) where
+    (like : (i j : ℕ) → i < n → j < n → x i ≡ false → x j ≡ false → (r i ≤ r j) ↔ (s i ≤ s j)) where
   back : (i : ℕ) → i < n → x i ≡ false → y i ≡ false
   back i h e = test (y i) (λ g. clash (more i h g) e) (λ g. g)
 
@@ -46,7 +46,7 @@ module _ (r s : ℕ → ℕ) (x y : ℕ → Bool) (n : ℕ) (more : (i : ℕ) �
   agree (suc i) j f g h =
       let u = f .2 j (g .0) h in
       let v = g .2 i (f .0) (back i (f .0) (f .1)) in
-      omega (arith, u .1 (like j i h (f .1) .1 (v .0)), v .1 (like i j (f .1) h .0 (u .0)))
+      omega (arith, u .1 (like j i (g .0) (f .0) h (f .1) .1 (v .0)), v .1 (like i j (f .0) (g .0) (f .1) h .0 (u .0)))
 
   -- where x and y leave the same
   pub agree-all : ((i : ℕ) → i < n → x i ≡ true → y i ≡ true) → (p q : ℕ) → First r x n p → First s y n q → p ≡ q

@@ -34,16 +34,16 @@ module _ (y : System) (o h : ℕ) where
   pub accepted-never : (a n : ℕ) → Decides y o h a (Accepted n) → NeverMissed y
   accepted-never a n d = d .0 .never
 
-  pub never-accepted : (a : ℕ) → ((n : ℕ) → SlotsNeeded y o h plain n → n ≤ a) → NeverMissed y
+  pub never-accepted : (a : ℕ) → (n : ℕ) × SlotsNeeded y o h plain n × (n ≤ a) → NeverMissed y
       → (r : Verdict) → Decides y o h a r → (n : ℕ) × (r ≡ Accepted n)
   never-accepted a enough never (Accepted n) d = (n, refl)
   never-accepted a enough never (Missed t i) d = absurd (d .0 .misses (never t))
-  never-accepted a enough never Undecided d = absurd (omega (arith, enough (d .0) (d .1), d .2))
+  never-accepted a enough never Undecided d = absurd (omega (arith, enough .2, d (enough .0) (enough .1)))
   never-accepted a enough never (Refused n p) d = absurd d
 
   -- UNDECIDED exactly where the slots needed exceed the allowance
   pub undecided-exceeds : (a n : ℕ) → SlotsNeeded y o h plain n → Decides y o h a Undecided → a < n
-  undecided-exceeds a n s d = omega (arith, d .2, slots-one y o h plain (d .0) n (d .1) s)
+  undecided-exceeds a n s d = d n s
 
   pub exceeds-undecided : (a n : ℕ) → SlotsNeeded y o h plain n → a < n → (r : Verdict) → Decides y o h a r → r ≡ Undecided
   exceeds-undecided a n s k (Accepted m) d = absurd (omega (arith, d .1, slots-one y o h plain m n (inr (d .0)) s))
@@ -62,16 +62,19 @@ module _ (y : System) (o h : ℕ) where
   decides-one : (a : ℕ) (r s : Verdict) → Decides y o h a r → Decides y o h a s → r ≡ s
   decides-one a (Accepted n) (Accepted m) d e = ap Accepted (settles-one y o h plain n m (d .0) (e .0))
   decides-one a (Accepted n) (Missed t i) d e = absurd (e .0 .misses (d .0 .never t))
-  decides-one a (Accepted n) Undecided d e = exceeds-undecided a (e .0) (e .1) (e .2) (Accepted n) d
+  decides-one a (Accepted n) Undecided d e = absurd (omega (arith, d .1, e n (inr (d .0))))
   decides-one a (Accepted n) (Refused m p) d e = absurd e
   decides-one a (Missed t i) (Accepted n) d e = absurd (d .0 .misses (e .0 .never t))
   decides-one a (Missed t i) (Missed u j) d e =
       let q = miss-one y (stated y) t u (d .0) (e .0) in
       let p : i ≡ j = d .2 ∙ ap (missedId y (stated y)) q ∙ sym (e .2) in
       rw (q, p)
-  decides-one a (Missed t i) Undecided d e = exceeds-undecided a (e .0) (e .1) (e .2) (Missed t i) d
+  decides-one a (Missed t i) Undecided d e = absurd (omega (arith, d .1, e t (inl (d .0))))
   decides-one a (Missed t i) (Refused m p) d e = absurd e
-  decides-one a Undecided s d e = sym (exceeds-undecided a (d .0) (d .1) (d .2) s e)
+  decides-one a Undecided (Accepted n) d e = absurd (omega (arith, e .1, d n (inr (e .0))))
+  decides-one a Undecided (Missed t i) d e = absurd (omega (arith, e .1, d t (inl (e .0))))
+  decides-one a Undecided Undecided d e = refl
+  decides-one a Undecided (Refused n p) d e = absurd e
   decides-one a (Refused n p) s d e = absurd d
 
 -- the missed id is the smallest of those missed at that time, where ids ascend with the place

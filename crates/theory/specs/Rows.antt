@@ -1,6 +1,6 @@
 -- A table that passes the checks meets what the laws ask, under every policy whose comparisons repeat; so slots needed exists, once,
 -- and is at most 2^48. Check 12 stands apart, as a profile may replace it.
-use mathlib.Core.Path.{_≡_}
+use mathlib.Core.Path.{_≡_, refl}
 use mathlib.Core.Bool.{true}
 use mathlib.Core.List.{List, [], _∷_}
 use Prim.Native.Nat.{ℕ, zero, suc, _%_, _^_, _≤_}
@@ -18,7 +18,7 @@ use Rattle.basics.specs.Cases.{both-true}
 use Rattle.basics.specs.Search.{lowest-holds}
 use Rattle.reordering.specs.All.{All}
 use Rattle.theory.specs.Policies.{Repeats}
-use Rattle.theory.specs.Times.{Quick, Short, Turn}
+use Rattle.theory.specs.Times.{Free, Quick, Short, Turn}
 use Rattle.theory.specs.Twin.{slots}
 use Rattle.theory.specs.Decides.{Within, slots-one, slots-are, slots-limit}
 
@@ -85,16 +85,20 @@ module _ (k : Policy) (again : Repeats k) (ws : List Row) (v : Passes ws) where
     hyper = v .limit;
   }
 
+-- the normal profile: a job may be preempted at any slot
+pub frees : (k : Policy) (ws : List Row) → Free (system k ws)
+frees k ws i m = refl
+
 module _ (k : Policy) (again : Repeats k) (ws : List Row) (v : Valid ws) where
   pub quicks : Quick (system k ws)
   quicks = all-rows (λ w. w .resume ≤ w .start) (omega arith) ws (v .quick)
 
   -- IN DOCUMENT 01'S WORDS
   pub needed : SlotsNeeded (system k ws) (omax ws) (hyper ws) plain (slots (system k ws) (omax ws) (hyper ws))
-  needed = slots-are (system k ws) quicks (shorts k again ws (v .passes)) (omax ws) (hyper ws) (turn k again ws (v .passes)) (within k again ws (v .passes))
+  needed = slots-are (system k ws) (frees k ws) quicks (shorts k again ws (v .passes)) (omax ws) (hyper ws) (turn k again ws (v .passes)) (within k again ws (v .passes))
 
   -- "An allowance of 2^48 slots always decides."
   pub at-most : (n : ℕ) → SlotsNeeded (system k ws) (omax ws) (hyper ws) plain n → n ≤ 2 ^ 48
   at-most n s =
-      let most = slots-limit (system k ws) quicks (shorts k again ws (v .passes)) (omax ws) (hyper ws) (turn k again ws (v .passes)) (within k again ws (v .passes)) in
+      let most = slots-limit (system k ws) (frees k ws) quicks (shorts k again ws (v .passes)) (omax ws) (hyper ws) (turn k again ws (v .passes)) (within k again ws (v .passes)) in
       rw (slots-one (system k ws) (omax ws) (hyper ws) plain _ n needed s) at most

@@ -11,12 +11,13 @@ use native.Mathlib.Omega.{arith}
 use borrow.Author.Tests.{le-leb}
 use Rattle.rules.specs.declared.Row.{Row}
 use Rattle.rules.specs.Policies.{System}
-use Rattle.rules.specs.Slots.{State, Choice, complete, pick, loading, released, newest, due, delay, joins, rank, requests, lengths, joined, run, stated, schedule, onTime, missed}
+use Rattle.rules.specs.Slots.{State, Choice, complete, pick, loading, released, newest, due, delay, joins, rank, order, requests, lengths, joined, run, stated, schedule, onTime, missed}
 use Rattle.basics.specs.Cases.{test, le-case, clash}
 use Rattle.theory.specs.Uniform.{act, run-next}
 use Rattle.theory.specs.Order.{First, pick-first}
 use Rattle.theory.specs.Domination.{Dom, dom-done, dom-step, was}
-use Rattle.theory.specs.Times.{Quick, Turn, no-turn, delay-anti, released-again, released-from, newest-again}
+use Rattle.theory.specs.Free.{free-next}
+use Rattle.theory.specs.Times.{Free, Quick, Turn, no-turn, delay-anti, released-again, released-from, newest-again}
 
 stays : (n : ℕ) (r : ℕ → ℕ) (load : ℕ → ℕ → ℕ) (s : State) (i : ℕ) → complete s i ≡ true → complete (act n r load s) i ≡ true
 stays n r load s i h = test (complete (act n r load s) i) (λ e. e) (λ e. clash h (was s (pick r (complete s) n) (loading load s (pick r (complete s) n)) i e))
@@ -26,7 +27,7 @@ not-yet w t h = test (released w t) (λ e. absurd (omega (arith, released-from w
 
 -- a task that is complete stays so until its next release
 pub keeps : (y : System) (c : ℕ → Choice) (t i : ℕ) → released (y .row i) t ≡ false → complete (run y c t) i ≡ true → complete (run y c (suc t)) i ≡ true
-keeps y c t i e h = rw (run-next y c t) (stays (y .tasks) (rank y t) (lengths y (c t)) (joined y (c t) t (run y c t)) i (rw e h))
+keeps y c t i e h = rw (run-next y c t) (stays (y .tasks) (order y t (joined y (c t) t (run y c t))) (lengths y (c t)) (joined y (c t) t (run y c t)) i (rw e h))
 
 -- before its first release a task is complete
 pub unreleased : (y : System) (c : ℕ → Choice) (t i : ℕ) → t ≤ y .row i .offset → complete (run y c t) i ≡ true
@@ -59,7 +60,7 @@ module _ (y : System) (h : ℕ) (turn : Turn y h) where
   like t i j e f = rw (rank-again t i e, rank-again t j f) (turn .again i j (newest (y .row i) t) (newest (y .row j) t))
 
 -- THE THEOREM
-module _ (y : System) (quick : Quick y) (h : ℕ) (turn : Turn y h) (c : ℕ → Choice) where
+module _ (y : System) (free : Free y) (quick : Quick y) (h : ℕ) (turn : Turn y h) (c : ℕ → Choice) where
   next : ℕ → Choice → State → State
   next u d s = act (y .tasks) (rank y u) (lengths y d) (joined y d u s)
 
@@ -83,19 +84,19 @@ module _ (y : System) (quick : Quick y) (h : ℕ) (turn : Turn y h) (c : ℕ →
     same = λ j u e. clash (unreleased y c 0 j (omega arith)) e;
     side = λ j u. absurd (omega arith);
   }
-  ahead (suc t) = rw (suc-add t h, run-next y c t, run-next y (stated y) (t + h)) (ahead-step t (schedule y (t + h)) (ahead t))
+  ahead (suc t) = rw (suc-add t h, free-next y free c t, free-next y free (stated y) (t + h)) (ahead-step t (schedule y (t + h)) (ahead t))
 
   pub done-sooner : (t i : ℕ) → complete (schedule y (t + h)) i ≡ true → complete (run y c t) i ≡ true
   done-sooner t = dom-done _ _ _ _ (ahead t)
 
 -- COUSINS: the schedule against itself, one turn on
-pub cousins : (y : System) → Quick y → (h : ℕ) → Turn y h → (t : ℕ) → Ahead y (schedule y t) (schedule y (t + h))
-cousins y quick h turn = ahead y quick h turn (stated y)
+pub cousins : (y : System) → Free y → Quick y → (h : ℕ) → Turn y h → (t : ℕ) → Ahead y (schedule y t) (schedule y (t + h))
+cousins y free quick h turn = ahead y free quick h turn (stated y)
 
 -- DEMAND 3: what is complete in the schedule is complete in the run; and where the schedule misses nothing, no run does
-module _ (y : System) (quick : Quick y) (c : ℕ → Choice) where
+module _ (y : System) (free : Free y) (quick : Quick y) (c : ℕ → Choice) where
   pub finishes : (t i : ℕ) → complete (schedule y t) i ≡ true → complete (run y c t) i ≡ true
-  finishes t = rw (add-zero t) at (done-sooner y quick 0 (no-turn y) c t)
+  finishes t = rw (add-zero t) at (done-sooner y free quick 0 (no-turn y) c t)
 
   pub meets : (t : ℕ) → missed y t (schedule y t) ≡ 0 → missed y t (run y c t) ≡ 0
   meets t e = go (missed y t (run y c t)) (pick-first _ _ (y .tasks)) (rw e at (pick-first (λ i. 0) (onTime y t (schedule y t)) (y .tasks)))

@@ -15,9 +15,9 @@ use Rattle.rules.specs.Table.{noRow, omax, hyper}
 use Rattle.rules.specs.Checks.{tableRead}
 use Rattle.rules.specs.Policies.{blank, policy, row}
 use Rattle.rules.specs.Slots.{Choice, onTime, run, stated}
-use Rattle.rules.specs.Decided.{missedAt, NeverMissed}
+use Rattle.rules.specs.Decided.{missedAt, NeverMissed, SlotsNeeded}
 use Rattle.rules.specs.AsRun.{listed}
-use Rattle.rules.specs.Verdicts.{tasksOf, systemOf, missedId, Decides}
+use Rattle.rules.specs.Verdicts.{tasksOf, systemOf, missedId, plain, Decides}
 use Rattle.rules.specs.Demands.{KeepsTime}
 use Rattle.basics.specs.Cases.{eq-case}
 use Rattle.basics.specs.Lists.{any-default}
@@ -25,7 +25,7 @@ use Rattle.reordering.specs.All.{All}
 use Rattle.reordering.specs.Canonical.{canonical-length}
 use Rattle.reordering.specs.Passed.{Fine, Passed, passed, passed-canonical, fine-at, ids-rise}
 use Rattle.theory.specs.Policies.{policy-repeats}
-use Rattle.theory.specs.Rows.{Fits, Valid, shorts, quicks, at-most}
+use Rattle.theory.specs.Rows.{Fits, Valid, shorts, quicks, frees, needed, at-most}
 use Rattle.theory.specs.Demand3.{keeps-time}
 use Rattle.theory.specs.Replies.{never-accepted, missed-smallest}
 
@@ -57,18 +57,22 @@ module _ (text : List ℕ) (fine : tableRead text .refusal .number ≡ 0) (p : �
   valid : Valid (tasksOf text)
   valid = valid-rows (tasksOf text) rows-pass
 
+  -- the slots needed, of which there are at most 2^48
+  number : (n : ℕ) × SlotsNeeded (systemOf p text) (omax (tasksOf text)) (hyper (tasksOf text)) plain n × (n ≤ 2 ^ 48)
+  number =
+      let s = needed (policy p) (policy-repeats p) (tasksOf text) valid in
+      (_, s, at-most (policy p) (policy-repeats p) (tasksOf text) valid _ s)
+
   -- "An allowance of 2^48 slots always decides."
   pub always-decides : (a : ℕ) → 2 ^ 48 ≤ a → Decides (systemOf p text) (omax (tasksOf text)) (hyper (tasksOf text)) a Undecided → ⊥
-  always-decides a enough d =
-      let top = at-most (policy p) (policy-repeats p) (tasksOf text) valid in
-      omega (arith, d .2, top (d .0) (d .1))
+  always-decides a enough d = omega (arith, number .2, d (number .0) (number .1))
 
   -- "Accepted means that no job ever misses its deadline in the unbounded schedule at the stated times"; and where none does, an
   -- allowance that suffices accepts
   pub accepts : (a : ℕ) → 2 ^ 48 ≤ a → NeverMissed (systemOf p text)
       → (r : Verdict) → Decides (systemOf p text) (omax (tasksOf text)) (hyper (tasksOf text)) a r → (n : ℕ) × (r ≡ Accepted n)
   accepts a enough never = never-accepted (systemOf p text) (omax (tasksOf text)) (hyper (tasksOf text)) a
-      (λ n s. let top = at-most (policy p) (policy-repeats p) (tasksOf text) valid n s in omega arith) never
+      (number .0, number .1, omega (arith, number .2)) never
 
   -- "lowest id on a tie"
   ids : (i j : ℕ) → i ≤ j → j < length (tasksOf text) → row (tasksOf text) i .id ≤ row (tasksOf text) j .id
@@ -93,7 +97,7 @@ module _ (text : List ℕ) (fine : tableRead text .refusal .number ≡ 0) (p : �
       omega (arith, f .wcet-low, f .wcet-deadline, e)
 
   pub demand-3 : (a n : ℕ) → Decides (systemOf p text) (omax (tasksOf text)) (hyper (tasksOf text)) a (Accepted n) → (c : ℕ → Choice) → KeepsTime (systemOf p text) c
-  demand-3 a n d = keeps-time (systemOf p text) (quicks (policy p) (policy-repeats p) (tasksOf text) valid)
+  demand-3 a n d = keeps-time (systemOf p text) (frees (policy p) (tasksOf text)) (quicks (policy p) (policy-repeats p) (tasksOf text) valid)
       (shorts (policy p) (policy-repeats p) (tasksOf text) (valid .passes)) deadlines (d .0 .never)
 
   -- "what As run writes for an accepted table is shown to be the beginning of a run that demand 3 speaks of"

@@ -114,7 +114,11 @@ module _ (w : Row) (h : ℕ) (e : h % w .period ≡ 0) (t : ℕ) where
   pub due-again : w .deadline ≤ w .period → w .offset < t → due w (t + h) ≡ due w t
   due-again short from = test (due w (t + h)) (λ r. due-later (reaches short from r)) (λ r. test (due w t) (λ q. due-later (due-from w t q)) (λ q. r ∙ sym q))
 
--- WHAT THE LAWS ASK of a table, and of a number of slots with which it repeats. Domination alone uses `Quick`
+-- WHAT THE LAWS ASK of a table, and of a number of slots with which it repeats. Domination alone uses `Quick` and `Free`
+
+-- a job may be preempted at any slot
+abbrev pub Free : System → Type 0
+Free y = (i m : ℕ) → y .held i m ≡ false
 
 abbrev pub Quick : System → Type 0
 Quick y = (i : ℕ) → y .row i .resume ≤ y .row i .start

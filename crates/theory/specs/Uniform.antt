@@ -7,7 +7,7 @@ use native.Mathlib.Nat.{add-zero}
 use borrow.Author.Tests.{eq-eqb}
 use lib.Dec.{leb, eqb, eqb·suc-zero, eqb·zero-suc, eqb·suc-suc}
 use Rattle.rules.specs.Policies.{System}
-use Rattle.rules.specs.Slots.{State, Choice, complete, unless, pick, loading, slot, rank, lengths, joined, run}
+use Rattle.rules.specs.Slots.{State, Choice, complete, unless, pick, loading, slot, order, lengths, joined, run}
 use Rattle.theory.specs.Order.{First, pick-first}
 
 abbrev pub bit : Bool → ℕ
@@ -59,6 +59,6 @@ act-slot n rank load s = go (pick rank (complete s) n) (pick-first rank (complet
     go zero f = idle s
     go (suc j) f = busy j (loading load s (suc j)) (f .1)
 
-pub run-next : (y : System) (c : ℕ → Choice) (t : ℕ) → run y c (suc t) ≡ act (y .tasks) (rank y t) (lengths y (c t)) (joined y (c t) t (run y c t))
+pub run-next : (y : System) (c : ℕ → Choice) (t : ℕ) → run y c (suc t) ≡ act (y .tasks) (order y t (joined y (c t) t (run y c t))) (lengths y (c t)) (joined y (c t) t (run y c t))
 unfolding run
-run-next y c t = sym (act-slot (y .tasks) (rank y t) (lengths y (c t)) (joined y (c t) t (run y c t)))
+run-next y c t = sym (act-slot (y .tasks) (order y t (joined y (c t) t (run y c t))) (lengths y (c t)) (joined y (c t) t (run y c t)))
