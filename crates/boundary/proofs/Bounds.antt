@@ -1,14 +1,14 @@
--- How large a reply is: every reply that the rules give is small, so that it crosses as one number. Times are at most 2^48, the
--- allowance that always decides, or the slots of a lent buffer; ids are at most 255 where the table passes. The place of a refusal
--- is a line of a text of at most 4,096 bytes, or an id of at most five digits. The exported functions use it, and Unpacked.
+-- How large a reply is: every reply that the rules give to a small source is small, so that it crosses as one number. Times are at most
+-- 2^48, the allowance that always decides, or the slots of a lent buffer; ids are at most 255 where the table passes. The place of a
+-- refusal is a line of a text of at most 4,096 bytes, or an id that 32 bits hold. The exported functions use it, and Unpacked.
 use mathlib.Core.Path.{_≡_, refl}
 use mathlib.Core.Logic.{inl, inr}
-use mathlib.Core.Bool.{Bool, true, false}
+use mathlib.Core.Bool.{Bool, true, false, _&&_}
 use mathlib.Core.List.{List, [], _∷_, map}
 use Prim.Native.Nat.{ℕ, zero, suc, _+_, _*_, _-_, _/_, _%_, _^_, _≤_, _<_, pred}
 use native.Mathlib.Nat.{add-zero, zero-add, pow-suc, pow-le-pow-right}
 use native.Mathlib.Omega.{arith}
-use borrow.Author.Tests.{eqb-true, leb-true, ltb-false}
+use borrow.Author.Tests.{eqb-true, eqb-false, leb-true, ltb-true, ltb-false}
 use lib.Dec.{eqb, leb, ltb}
 use lib.ListN.{length, drop, getD}
 use Rattle.rules.specs.declared.Row.{Row}
@@ -17,11 +17,12 @@ use Rattle.rules.specs.Text.{lines, header, same, fields, isDigit, digits, inne
 use Rattle.rules.specs.declared.Verdict.{Verdict}
 use Rattle.rules.specs.declared.ScheduleReply.{ScheduleReply}
 use Rattle.rules.specs.Table.{omax, hyper}
-use Rattle.rules.specs.Checks.{better, smallest, fault, place, firstFault, checked, rowsChecked, tableRead, check, within, policyWrong, slotsWrong, verdictRefusal, slotsRefusal}
+use Rattle.rules.specs.Sources.{Source, textSource}
+use Rattle.rules.specs.Checks.{within, better, smallest, fault, place, found, checks, firstFault, refusalOf, check, policyWrong, slotsWrong, verdictRefusal, refusalFor, slotsRefusal}
 use Rattle.rules.specs.Policies.{policy, row}
 use Rattle.rules.specs.Slots.{Choice, complete, run, stated}
 use Rattle.rules.specs.Decided.{missedAt, SlotsNeeded}
-use Rattle.rules.specs.Verdicts.{tasksOf, systemOf, missedId, plain, Decides, Replies, VerdictIs, response, Worst}
+use Rattle.rules.specs.Verdicts.{tasksOf, systemOf, missedId, plain, DecidesOf, Replies, VerdictIs, response, Worst}
 use Rattle.rules.specs.Schedules.{Fills, Writes}
 use Rattle.rules.specs.declared.Verdict.the-variants as verdict
 use Rattle.rules.specs.declared.ScheduleReply.the-variants as schedule
@@ -31,11 +32,11 @@ use Rattle.reordering.specs.All.{All}
 use Rattle.reordering.specs.Passed.{Fine, Passed, passed, passed-canonical}
 use Rattle.theory.specs.Policies.{policy-repeats}
 use Rattle.theory.specs.Rows.{at-most}
-use Rattle.theory.specs.Texts.{valid-rows}
+use Rattle.theory.specs.Sources.{valid-rows}
 use Rattle.boundary.specs.Packed.{SmallRefusal, Small, SmallSchedule}
 use Rattle.boundary.specs.Crossing.{bytesRefusal}
 
--- AN ID OF AT MOST FIVE DIGITS
+-- A TEXT: an id of at most five digits, which 32 bits hold
 
 digit-low : (b : ℕ) → isDigit b ≡ true → b - 48 ≤ 9
 digit-low b e = test (ltb b 48) (λ l. clash (rw l at e) refl) (λ l. omega (arith, leb-true b 57 (rw l at e)))
@@ -58,7 +59,7 @@ value-low f e =
     omega (arith, pow-le-pow-right {n = 10} (omega arith) five)
 
 abbrev Low : Row → Type 0
-Low r = r .id ≤ 99999
+Low r = r .id < 2 ^ 32
 
 first-low : (fs : List (List ℕ)) → all good fs ≡ true → getD (map value fs) 0 0 ≤ 99999
 unfolding all
@@ -66,7 +67,7 @@ first-low [] h = omega arith
 first-low (f ∷ fs) h = value-low f (both-true (good f) (all good fs) h .0)
 
 id-low : (l : List ℕ) → wellFormed l ≡ true → Low (rowOf l)
-id-low l e = first-low (fields l) (both-true (eqb (length (fields l)) 8) (all good (fields l)) e .1)
+id-low l e = omega (arith, first-low (fields l) (both-true (eqb (length (fields l)) 8) (all good (fields l)) e .1))
 
 rows-low : (n : ℕ) (ls : List (List ℕ)) → 0 < n → firstBad n ls ≡ 0 → All Low (map rowOf ls)
 unfolding firstBad
@@ -84,13 +85,13 @@ text-low s e = go (lines s) e
 
 -- THE PLACE OF CHECKS 6 TO 12
 
-better-low : (hit : Bool) (id b : ℕ) → id ≤ 99999 → b ≤ 100000 → better hit id b ≤ 100000
+better-low : (hit : Bool) (id b : ℕ) → id < 2 ^ 32 → b ≤ 2 ^ 32 → better hit id b ≤ 2 ^ 32
 better-low false id b h k = k
 better-low true id b h k = test (eqb b 0)
     (λ e. rw e (omega arith))
     (λ e. rw e (test (ltb (id + 1) b) (λ l. rw l (omega arith)) (λ l. rw l k)))
 
-smallest-low : (p : Row → Bool) (b : ℕ) (rs : List Row) → All Low rs → b ≤ 100000 → smallest p b rs ≤ 100000
+smallest-low : (p : Row → Bool) (b : ℕ) (rs : List Row) → All Low rs → b ≤ 2 ^ 32 → smallest p b rs ≤ 2 ^ 32
 unfolding smallest
 smallest-low p b [] h k = k
 smallest-low p b (r ∷ rs) h k = smallest-low p (better (p r) (r .id) b) rs (h .1) (better-low (p r) (r .id) b (h .0) k)
@@ -98,12 +99,27 @@ smallest-low p b (r ∷ rs) h k = smallest-low p (better (p r) (r .id) b) rs (h 
 abbrev SmallR : Refusal → Type 0
 SmallR f = SmallRefusal (f .number) (f .place)
 
-fault-small : (d n : ℕ) (rows : List Row) → All Low rows → n + d ≤ 13 → SmallR (firstFault d n rows)
-unfolding firstFault place
-fault-small zero n rows h k = (omega arith, omega arith)
-fault-small (suc d) n rows h k = test (eqb (place n rows) 0)
-    (λ e. rw e (fault-small d (suc n) rows h (omega arith)))
-    (λ e. rw e (omega arith, omega (arith, smallest-low (fault n rows) 0 rows h (omega arith))))
+found-low : (n : ℕ) (rows : List Row) → All Low rows → found n rows ≤ 2 ^ 32
+unfolding found place
+found-low n rows h = test (eqb n 5)
+    (λ e. rw e (test (within 1 16 (length rows)) (λ k. rw k (omega arith)) (λ k. rw k (omega arith))))
+    (λ e. test (eqb n 13)
+    (λ f. rw (e, f) (test (leb (hyper rows) 100000) (λ k. rw k (omega arith)) (λ k. rw k (omega arith))))
+    (λ f. rw (e, f) (smallest-low (fault n rows) 0 rows h (omega arith))))
+
+-- numbers of checks are below 32
+abbrev narrow : List ℕ → Bool
+narrow [] = true
+narrow (n ∷ ns) = ltb n 32 && narrow ns
+
+fault-small : (ns : List ℕ) (rows : List Row) → narrow ns ≡ true → All Low rows → SmallR (firstFault ns rows)
+unfolding firstFault
+fault-small [] rows k h = (omega arith, omega arith)
+fault-small (n ∷ ns) rows k h =
+    let both = both-true (ltb n 32) (narrow ns) k in
+    test (eqb (found n rows) 0)
+    (λ e. rw e (fault-small ns rows (both .1) h))
+    (λ e. rw e (ltb-true n 32 (both .0), omega (arith, found-low n rows h, eqb-false (found n rows) 0 e)))
 
 -- THE LINE OF CHECK 4
 
@@ -135,36 +151,38 @@ bad-low s h = go (lines s) (omega (arith, lines-length s))
     go [] k = omega arith
     go (l ∷ ls) k = test (same l header) (λ e. rw e (omega (arith, bad-length 2 ls))) (λ e. rw e (omega arith))
 
--- EVERY REFUSAL
+-- EVERY REFUSAL of a source whose own is small and whose ids 32 bits hold
 
-checked-small : (rows : List Row) (f : Refusal) → SmallR f → SmallR (checked rows f .refusal)
-unfolding checked
-checked-small rows f h = test (eqb (f .number) 0)
-    (λ e. test (leb (hyper rows) 100000) (λ g. rw (e, g) (omega arith, omega arith)) (λ g. rw (e, g) (omega arith, omega arith)))
-    (λ e. rw e h)
+pub record SmallSource (s : Source) : Type 0 where
+  pub own : SmallR (s .refusal)
+  pub ids : All Low (s .rows)
 
-rows-small : (rows : List Row) → All Low rows → SmallR (rowsChecked rows .refusal)
-unfolding rowsChecked
-rows-small rows h = test (within 1 16 (length rows))
-    (λ e. rw e (checked-small rows (firstFault 7 6 rows) (fault-small 7 6 rows h (omega arith))))
-    (λ e. rw e (omega arith, omega arith))
-
-read-small : (s : List ℕ) → SmallR (tableRead s .refusal)
-unfolding tableRead
-read-small s = test (leb (length s) 4096)
+pub text-small : (s : List ℕ) → SmallSource (textSource s)
+unfolding textSource
+text-small s = test (leb (length s) 4096)
     (λ e. test (eqb (badLine s) 0)
-    (λ f. rw (e, f) (rows-small (rowsOf s) (text-low s (eqb-true (badLine s) 0 f))))
-    (λ f. rw (e, f) (omega arith, bad-low s (leb-true (length s) 4096 e))))
-    (λ e. rw e (omega arith, omega arith))
+    (λ f. rw (e, f) (record { own = (omega arith, omega arith); ids = text-low s (eqb-true (badLine s) 0 f) }))
+    (λ f. rw (e, f) (record { own = (omega arith, omega (arith, bad-low s (leb-true (length s) 4096 e))); ids = tt })))
+    (λ e. rw e (record { own = (omega arith, omega arith); ids = tt }))
 
-check-small : (n : ℕ) (b : Bool) (f : Refusal) → n ≤ 13 → SmallR f → SmallR (check n b f)
+read-small : (s : Source) → SmallSource s → SmallR (refusalOf s)
+unfolding refusalOf
+read-small s h = test (eqb (s .refusal .number) 0)
+    (λ e. rw e (fault-small checks (s .rows) refl (h .ids)))
+    (λ e. rw e (h .own))
+
+check-small : (n : ℕ) (b : Bool) (f : Refusal) → n < 32 → SmallR f → SmallR (check n b f)
 check-small n true f h k = (h, omega arith)
 check-small n false f h k = k
 
 -- a check whose number is not 0 passes where none is given
-pub check-none : (n : ℕ) (b : Bool) (f : Refusal) → 0 < n → check n b f .number ≡ 0 → (b ≡ false) × (f .number ≡ 0)
+check-none : (n : ℕ) (b : Bool) (f : Refusal) → 0 < n → check n b f .number ≡ 0 → (b ≡ false) × (f .number ≡ 0)
 check-none n true f h e = absurd (omega arith)
 check-none n false f h e = (refl, e)
+
+-- where a buffer is lent
+pub lent-none : (p : ℕ) (unfit : Bool) (f : Refusal) → check 1 (policyWrong p) (check 2 unfit f) .number ≡ 0 → (unfit ≡ false) × (f .number ≡ 0)
+lent-none p unfit f e = check-none 2 unfit f (omega arith) (check-none 1 (policyWrong p) (check 2 unfit f) (omega arith) e .1)
 
 -- A TABLE THAT PASSES
 
@@ -173,9 +191,9 @@ row-low [] h i = (omega arith, omega arith)
 row-low (w ∷ ws) h zero = (h .0 .id-high, h .0 .period-high)
 row-low (w ∷ ws) h (suc i) = row-low ws (h .1) i
 
-module _ (s : List ℕ) (fine : tableRead s .refusal .number ≡ 0) where
+module _ (s : Source) (fine : refusalOf s .number ≡ 0) where
   tasks-pass : Passed (tasksOf s)
-  tasks-pass = passed-canonical (rowsOf s) (passed s fine .rows)
+  tasks-pass = passed-canonical (s .rows) (passed s fine .1)
 
   pub tasks-few : length (tasksOf s) ≤ 16
   tasks-few = tasks-pass .few
@@ -195,46 +213,40 @@ module _ (s : List ℕ) (fine : tableRead s .refusal .number ≡ 0) where
   needed-low : (p n : ℕ) → SlotsNeeded (systemOf p s) (omax (tasksOf s)) (hyper (tasksOf s)) plain n → n ≤ 2 ^ 48
   needed-low p = at-most (policy p) (policy-repeats p) (tasksOf s) (valid-rows (tasksOf s) tasks-pass)
 
-  decides-small : (p a : ℕ) (v : Verdict) → Decides (systemOf p s) (omax (tasksOf s)) (hyper (tasksOf s)) a v → Small v
+  decides-small : (p a : ℕ) (v : Verdict) → DecidesOf p a s v → Small v
   decides-small p a (verdict.Accepted n) d = needed-low p n (inr (d .0))
   decides-small p a (verdict.Missed t i) d = (needed-low p t (inl (d .0)), rw (d .2) (missed-low p (stated (systemOf p s)) t))
   decides-small p a verdict.Undecided d = tt
   decides-small p a (verdict.Refused n q) d = absurd d
 
--- VERDICT AND RESPONSES
-replies-small : (f : Refusal) (p a : ℕ) (text : List ℕ) (v : Verdict) → SmallR f → (f .number ≡ 0 → tableRead text .refusal .number ≡ 0) → Replies f p a text v → Small v
-replies-small f p a text v h fine r = eq-case (f .number) 0
-    (λ e. decides-small text (fine e) p a v (r .decided e))
-    (λ e. rw (r .refused e) h)
-
-pub verdict-small : (p a : ℕ) (text : List ℕ) (v : Verdict) → VerdictIs p a text v → Small v
-verdict-small p a text v = replies-small (verdictRefusal p text) p a text v
-    (check-small 1 (policyWrong p) (tableRead text .refusal) (omega arith) (read-small text))
-    (λ e. check-none 1 (policyWrong p) (tableRead text .refusal) (omega arith) e .1)
-
-pub bytes-small : (p a n : ℕ) (text : List ℕ) (v : Verdict) → Replies (bytesRefusal p n text) p a text v → Small v
-bytes-small p a n text v =
-    let f = tableRead text .refusal in
-    let g = check 2 (ltb n 64) f in
-    replies-small (bytesRefusal p n text) p a text v
-    (check-small 1 (policyWrong p) g (omega arith) (check-small 2 (ltb n 64) f (omega arith) (read-small text)))
-    (λ e. check-none 2 (ltb n 64) f (omega arith) (check-none 1 (policyWrong p) g (omega arith) e .1) .1)
-
--- SCHEDULE AND AS RUN
+-- VERDICT AND RESPONSES, SCHEDULE AND AS RUN
 slots-low : (n : ℕ) → slotsWrong n ≡ false → n ≤ 65536
 slots-low n e = test (eqb (n % 2) 0) (λ h. ltb-false 65536 n (rw h at e)) (λ h. clash refl (rw h at e))
 
-pub writes-small : (p : ℕ) (text : List ℕ) (c : ℕ → Choice) (before after : List ℕ) (v : ScheduleReply)
-    → Writes (slotsRefusal p (length before) text) (systemOf p text) c before after v → SmallSchedule v
-writes-small p text c before after v w =
-    let f = tableRead text .refusal in
-    let g = check 2 (slotsWrong (length before)) f in
-    eq-case (slotsRefusal p (length before) text .number) 0
-    (λ e. let second = check-none 2 (slotsWrong (length before)) f (omega arith) (check-none 1 (policyWrong p) g (omega arith) e .1) in
-    go v (second .0) (second .1) (w .filled e .0))
-    (λ e. rw (w .refused e .0) (check-small 1 (policyWrong p) g (omega arith) (check-small 2 (slotsWrong (length before)) f (omega arith) (read-small text))))
-  where
-    go : (v : ScheduleReply) → slotsWrong (length before) ≡ false → tableRead text .refusal .number ≡ 0 → Fills (systemOf p text) c (length before / 2) v → SmallSchedule v
-    go schedule.Filled h fine d = tt
-    go (schedule.Missed t i) h fine d = (omega (arith, d .1, slots-low (length before) h), rw (d .2) (missed-low text fine p c t))
-    go (schedule.Refused n q) h fine d = absurd d
+module _ (s : Source) (small : SmallSource s) (p : ℕ) where
+  replies-small : (f : Refusal) (a : ℕ) (v : Verdict) → SmallR f → (f .number ≡ 0 → refusalOf s .number ≡ 0) → Replies f (DecidesOf p a s) v → Small v
+  replies-small f a v h fine r = eq-case (f .number) 0
+      (λ e. decides-small s (fine e) p a v (r .decided e))
+      (λ e. rw (r .refused e) h)
+
+  pub verdict-small : (a : ℕ) (v : Verdict) → VerdictIs p a s v → Small v
+  verdict-small a v = replies-small (verdictRefusal p s) a v
+      (check-small 1 (policyWrong p) (refusalOf s) (omega arith) (read-small s small))
+      (λ e. check-none 1 (policyWrong p) (refusalOf s) (omega arith) e .1)
+
+  lent-small : (unfit : Bool) → SmallR (refusalFor p unfit s)
+  lent-small unfit = check-small 1 (policyWrong p) (check 2 unfit (refusalOf s)) (omega arith) (check-small 2 unfit (refusalOf s) (omega arith) (read-small s small))
+
+  pub bytes-small : (a n : ℕ) (v : Verdict) → Replies (bytesRefusal p n s) (DecidesOf p a s) v → Small v
+  bytes-small a n v = replies-small (bytesRefusal p n s) a v (lent-small (ltb n 64)) (λ e. lent-none p (ltb n 64) (refusalOf s) e .1)
+
+  pub writes-small : (c : ℕ → Choice) (before after : List ℕ) (v : ScheduleReply)
+      → Writes (slotsRefusal p (length before) s) (systemOf p s) c before after v → SmallSchedule v
+  writes-small c before after v w = eq-case (slotsRefusal p (length before) s .number) 0
+      (λ e. let k = lent-none p (slotsWrong (length before)) (refusalOf s) e in go v (k .0) (k .1) (w .filled e .0))
+      (λ e. rw (w .refused e .0) (lent-small (slotsWrong (length before))))
+    where
+      go : (v : ScheduleReply) → slotsWrong (length before) ≡ false → refusalOf s .number ≡ 0 → Fills (systemOf p s) c (length before / 2) v → SmallSchedule v
+      go schedule.Filled h fine d = tt
+      go (schedule.Missed t i) h fine d = (omega (arith, d .1, slots-low (length before) h), rw (d .2) (missed-low s fine p c t))
+      go (schedule.Refused n q) h fine d = absurd d

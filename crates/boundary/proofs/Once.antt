@@ -7,19 +7,21 @@ use lib.ListN.{length, take, take-append-drop}
 use lib.Seq.{take-add}
 use Rattle.rules.specs.declared.Verdict.{Verdict}
 use Rattle.rules.specs.declared.Verdict.the-variants.{Accepted, Missed, Undecided, Refused}
+use Rattle.rules.specs.Table.{omax, hyper}
+use Rattle.rules.specs.Sources.{Source}
 use Rattle.rules.specs.Slots.{stated}
 use Rattle.rules.specs.Policies.{System}
 use Rattle.rules.specs.AsRun.{listed}
 use Rattle.rules.specs.Checks.{verdictRefusal, slotsRefusal}
-use Rattle.rules.specs.Verdicts.{systemOf}
+use Rattle.rules.specs.Verdicts.{tasksOf, systemOf}
 use Rattle.theory.specs.Replies.{verdict-one}
 use Rattle.theory.specs.Responses.{worst-one}
 use Rattle.theory.specs.ScheduleReplies.{writes-one}
 use Rattle.boundary.specs.Packed.{packed, packedSchedule}
 use Rattle.boundary.specs.Crossing.{bytesRefusal, HoldBytes, LeavesBytes, VerdictCrosses, ResponsesCross, ScheduleCrosses, AsRunCrosses}
 
-pub verdict-once : {p a : ℕ} {text : List ℕ} {r s : ℕ} → VerdictCrosses p a text r → VerdictCrosses p a text s → r ≡ s
-verdict-once {p} {a} {text} c d = c .crosses ∙ ap packed (verdict-one (verdictRefusal p text) p a text (c .reply) (d .reply) (c .right) (d .right)) ∙ sym (d .crosses)
+pub verdict-once : {p a : ℕ} {s : Source} {r q : ℕ} → VerdictCrosses p a s r → VerdictCrosses p a s q → r ≡ q
+verdict-once {p} {a} {s} c d = c .crosses ∙ ap packed (verdict-one (verdictRefusal p s) (systemOf p s) (omax (tasksOf s)) (hyper (tasksOf s)) a (c .reply) (d .reply) (c .right) (d .right)) ∙ sym (d .crosses)
 
 -- RESPONSES: number by number
 module _ (y : System) (before x z : List ℕ) (a : HoldBytes y before x) (b : HoldBytes y before z) where
@@ -42,17 +44,17 @@ leaves-once y (Missed t i) before x z a b = a ∙ sym b
 leaves-once y Undecided before x z a b = a ∙ sym b
 leaves-once y (Refused n p) before x z a b = a ∙ sym b
 
-pub responses-once : {p a : ℕ} {text before x z : List ℕ} {r s : ℕ} → ResponsesCross p a text before x r → ResponsesCross p a text before z s → (r ≡ s) × (x ≡ z)
-responses-once {p} {a} {text} {before} {x} {z} c d =
-    let e = verdict-one (bytesRefusal p (length before) text) p a text (c .reply) (d .reply) (c .right) (d .right) in
-    (c .crosses ∙ ap packed e ∙ sym (d .crosses), leaves-once (systemOf p text) (d .reply) before x z (rw e at (c .buffer)) (d .buffer))
+pub responses-once : {p a : ℕ} {s : Source} {before x z : List ℕ} {r q : ℕ} → ResponsesCross p a s before x r → ResponsesCross p a s before z q → (r ≡ q) × (x ≡ z)
+responses-once {p} {a} {s} {before} {x} {z} c d =
+    let e = verdict-one (bytesRefusal p (length before) s) (systemOf p s) (omax (tasksOf s)) (hyper (tasksOf s)) a (c .reply) (d .reply) (c .right) (d .right) in
+    (c .crosses ∙ ap packed e ∙ sym (d .crosses), leaves-once (systemOf p s) (d .reply) before x z (rw e at (c .buffer)) (d .buffer))
 
-pub schedule-once : {p : ℕ} {text before x z : List ℕ} {r s : ℕ} → ScheduleCrosses p text before x r → ScheduleCrosses p text before z s → (r ≡ s) × (x ≡ z)
-schedule-once {p} {text} {before} {x} {z} c d =
-    let e = writes-one (slotsRefusal p (length before) text) (systemOf p text) (stated (systemOf p text)) before x z (c .reply) (d .reply) (c .right) (d .right) in
+pub schedule-once : {p : ℕ} {s : Source} {before x z : List ℕ} {r q : ℕ} → ScheduleCrosses p s before x r → ScheduleCrosses p s before z q → (r ≡ q) × (x ≡ z)
+schedule-once {p} {s} {before} {x} {z} c d =
+    let e = writes-one (slotsRefusal p (length before) s) (systemOf p s) (stated (systemOf p s)) before x z (c .reply) (d .reply) (c .right) (d .right) in
     (c .crosses ∙ ap packedSchedule (e .0) ∙ sym (d .crosses), e .1)
 
-pub as-run-once : {p : ℕ} {text xs zs before x z : List ℕ} {r s : ℕ} → AsRunCrosses p text xs zs before x r → AsRunCrosses p text xs zs before z s → (r ≡ s) × (x ≡ z)
-as-run-once {p} {text} {xs} {zs} {before} {x} {z} c d =
-    let e = writes-one (slotsRefusal p (length before) text) (systemOf p text) (listed (systemOf p text) xs zs) before x z (c .reply) (d .reply) (c .right) (d .right) in
+pub as-run-once : {p : ℕ} {s : Source} {xs zs before x z : List ℕ} {r q : ℕ} → AsRunCrosses p s xs zs before x r → AsRunCrosses p s xs zs before z q → (r ≡ q) × (x ≡ z)
+as-run-once {p} {s} {xs} {zs} {before} {x} {z} c d =
+    let e = writes-one (slotsRefusal p (length before) s) (systemOf p s) (listed (systemOf p s) xs zs) before x z (c .reply) (d .reply) (c .right) (d .right) in
     (c .crosses ∙ ap packedSchedule (e .0) ∙ sym (d .crosses), e .1)

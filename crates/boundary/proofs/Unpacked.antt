@@ -1,13 +1,14 @@
--- Nothing is lost: of every reply that the rules give, kind, number and place are had back from the one number that crosses, by the
--- divisions of host/ottersprawl.h.
+-- Nothing is lost: of every reply that the rules give to a small source, as a text is (`Bounds.text-small`), kind, number and place are
+-- had back from the one number that crosses, by the divisions of host/ottersprawl.h.
 use mathlib.Core.Path.{_≡_, refl}
 use mathlib.Core.List.{List}
-use Prim.Native.Nat.{ℕ, _+_, _*_, _/_, _%_, _≤_}
+use Prim.Native.Nat.{ℕ, _+_, _*_, _/_, _%_, _≤_, _<_}
 use native.Mathlib.Nat.{div-eq-of-lt-le}
 use native.Mathlib.Omega.{arith}
 use lib.ListN.{length}
 use Rattle.rules.specs.declared.Verdict.{Verdict}
 use Rattle.rules.specs.declared.ScheduleReply.{ScheduleReply}
+use Rattle.rules.specs.Sources.{Source}
 use Rattle.rules.specs.Slots.{stated}
 use Rattle.rules.specs.AsRun.{listed}
 use Rattle.rules.specs.Verdicts.{systemOf}
@@ -15,7 +16,7 @@ use Rattle.rules.specs.declared.Verdict.the-variants as verdict
 use Rattle.rules.specs.declared.ScheduleReply.the-variants as schedule
 use Rattle.boundary.specs.Packed.{packedMiss, packedRefusal, packed, packedSchedule, Parts, Unpacked, UnpackedSchedule, Small, SmallSchedule}
 use Rattle.boundary.specs.Crossing.{VerdictCrosses, ResponsesCross, ScheduleCrosses, AsRunCrosses}
-use Rattle.boundary.proofs.Bounds.{verdict-small, bytes-small, writes-small}
+use Rattle.boundary.proofs.Bounds.{SmallSource, verdict-small, bytes-small, writes-small}
 
 -- THE DIVISIONS
 parts-miss : (r t i : ℕ) → r ≡ packedMiss t i → i ≤ 255 → Parts 2 t i r
@@ -26,7 +27,7 @@ parts-miss r t i e h =
     let id : (t * 256 + i) % 256 ≡ i = omega (arith, div-eq-of-lt-le {k = t} 256 {m = t * 256 + i} (omega arith) (omega arith)) in
     record { kind = kind; number = rw kind time; place = rw (kind, both) id }
 
-parts-refusal : (r n p : ℕ) → r ≡ packedRefusal n p → n ≤ 13 → Parts 4 n p r
+parts-refusal : (r n p : ℕ) → r ≡ packedRefusal n p → n < 32 → Parts 4 n p r
 parts-refusal r n p e h =
     let both : r / 8 ≡ p * 32 + n = div-eq-of-lt-le 8 (omega arith) (omega arith) in
     let kind : r % 8 ≡ 4 = omega arith in
@@ -49,16 +50,17 @@ unpacked-schedule (schedule.Missed t i) r h e = parts-miss r t i e (h .1)
 unpacked-schedule (schedule.Refused n p) r h e = parts-refusal r n p e (h .0)
 
 -- OF WHAT CROSSES
-pub verdict-unpacked : {p a : ℕ} {text : List ℕ} {r : ℕ} (c : VerdictCrosses p a text r) → Unpacked (c .reply) r
-verdict-unpacked {p} {a} {text} {r} c = unpacked (c .reply) r (verdict-small p a text (c .reply) (c .right)) (c .crosses)
+module _ {s : Source} (small : SmallSource s) {p : ℕ} where
+  pub verdict-unpacked : {a r : ℕ} (c : VerdictCrosses p a s r) → Unpacked (c .reply) r
+  verdict-unpacked {a} {r} c = unpacked (c .reply) r (verdict-small s small p a (c .reply) (c .right)) (c .crosses)
 
-pub responses-unpacked : {p a : ℕ} {text before after : List ℕ} {r : ℕ} (c : ResponsesCross p a text before after r) → Unpacked (c .reply) r
-responses-unpacked {p} {a} {text} {before} {after} {r} c = unpacked (c .reply) r (bytes-small p a (length before) text (c .reply) (c .right)) (c .crosses)
+  pub responses-unpacked : {a : ℕ} {before after : List ℕ} {r : ℕ} (c : ResponsesCross p a s before after r) → Unpacked (c .reply) r
+  responses-unpacked {a} {before} {after} {r} c = unpacked (c .reply) r (bytes-small s small p a (length before) (c .reply) (c .right)) (c .crosses)
 
-pub schedule-unpacked : {p : ℕ} {text before after : List ℕ} {r : ℕ} (c : ScheduleCrosses p text before after r) → UnpackedSchedule (c .reply) r
-schedule-unpacked {p} {text} {before} {after} {r} c =
-    unpacked-schedule (c .reply) r (writes-small p text (stated (systemOf p text)) before after (c .reply) (c .right)) (c .crosses)
+  pub schedule-unpacked : {before after : List ℕ} {r : ℕ} (c : ScheduleCrosses p s before after r) → UnpackedSchedule (c .reply) r
+  schedule-unpacked {before} {after} {r} c =
+      unpacked-schedule (c .reply) r (writes-small s small p (stated (systemOf p s)) before after (c .reply) (c .right)) (c .crosses)
 
-pub as-run-unpacked : {p : ℕ} {text xs zs before after : List ℕ} {r : ℕ} (c : AsRunCrosses p text xs zs before after r) → UnpackedSchedule (c .reply) r
-as-run-unpacked {p} {text} {xs} {zs} {before} {after} {r} c =
-    unpacked-schedule (c .reply) r (writes-small p text (listed (systemOf p text) xs zs) before after (c .reply) (c .right)) (c .crosses)
+  pub as-run-unpacked : {xs zs before after : List ℕ} {r : ℕ} (c : AsRunCrosses p s xs zs before after r) → UnpackedSchedule (c .reply) r
+  as-run-unpacked {xs} {zs} {before} {after} {r} c =
+      unpacked-schedule (c .reply) r (writes-small s small p (listed (systemOf p s) xs zs) before after (c .reply) (c .right)) (c .crosses)

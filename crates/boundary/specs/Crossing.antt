@@ -1,5 +1,5 @@
--- What crosses to the host: document 01, "The host program is written in C and calls the checker with numbers and byte slices".
--- Definitions.
+-- What crosses to the host: document 01, "The host program is written in C and calls the checker with numbers and byte slices", of
+-- whatever was read. Definitions.
 use mathlib.Core.Path.{_≡_}
 use mathlib.Core.List.{List}
 use Prim.Native.Nat.{ℕ, _*_, _^_, _<_}
@@ -9,22 +9,23 @@ use Rattle.rules.specs.declared.Refusal.{Refusal}
 use Rattle.rules.specs.declared.Verdict.{Verdict}
 use Rattle.rules.specs.declared.Verdict.the-variants.{Accepted, Missed, Undecided, Refused}
 use Rattle.rules.specs.declared.ScheduleReply.{ScheduleReply}
-use Rattle.rules.specs.Checks.{check, policyWrong, tableRead}
+use Rattle.rules.specs.Sources.{Source}
+use Rattle.rules.specs.Checks.{refusalFor}
 use Rattle.rules.specs.Policies.{System}
-use Rattle.rules.specs.Verdicts.{systemOf, Replies, VerdictIs, Worst}
+use Rattle.rules.specs.Verdicts.{systemOf, DecidesOf, Replies, VerdictIs, Worst}
 use Rattle.rules.specs.Schedules.{ScheduleIs, AsRunIs}
 use Rattle.boundary.specs.Packed.{packed, packedSchedule}
 use Rattle.boundary.specs.Bytes.{fourOf}
 
 -- VERDICT: r is the number of a reply that the rules give
-pub record VerdictCrosses (p a : ℕ) (text : List ℕ) (r : ℕ) : Type 0 where
+pub record VerdictCrosses (p a : ℕ) (s : Source) (r : ℕ) : Type 0 where
   pub reply : Verdict
-  pub right : VerdictIs p a text reply
+  pub right : VerdictIs p a s reply
   pub crosses : r ≡ packed reply
 
 -- RESPONSES: "responses cross as four little-endian bytes each, so there refusal 2 means fewer than 64 bytes"
-abbrev pub bytesRefusal : ℕ → ℕ → List ℕ → Refusal
-bytesRefusal p n text = check 1 (policyWrong p) (check 2 (ltb n 64) (tableRead text .refusal))
+abbrev pub bytesRefusal : ℕ → ℕ → Source → Refusal
+bytesRefusal p n s = refusalFor p (ltb n 64) s
 
 -- the four bytes from the place k on are those of m
 pub record Four (m k : ℕ) (bs : List ℕ) : Type 0 where
@@ -44,19 +45,19 @@ LeavesBytes y (Missed t i) before after = after ≡ before
 LeavesBytes y Undecided before after = after ≡ before
 LeavesBytes y (Refused n p) before after = after ≡ before
 
-pub record ResponsesCross (p a : ℕ) (text before after : List ℕ) (r : ℕ) : Type 0 where
+pub record ResponsesCross (p a : ℕ) (s : Source) (before after : List ℕ) (r : ℕ) : Type 0 where
   pub reply : Verdict
-  pub right : Replies (bytesRefusal p (length before) text) p a text reply
-  pub buffer : LeavesBytes (systemOf p text) reply before after
+  pub right : Replies (bytesRefusal p (length before) s) (DecidesOf p a s) reply
+  pub buffer : LeavesBytes (systemOf p s) reply before after
   pub crosses : r ≡ packed reply
 
 -- SCHEDULE and AS RUN: the bytes are those of the rules
-pub record ScheduleCrosses (p : ℕ) (text before after : List ℕ) (r : ℕ) : Type 0 where
+pub record ScheduleCrosses (p : ℕ) (s : Source) (before after : List ℕ) (r : ℕ) : Type 0 where
   pub reply : ScheduleReply
-  pub right : ScheduleIs p text before after reply
+  pub right : ScheduleIs p s before after reply
   pub crosses : r ≡ packedSchedule reply
 
-pub record AsRunCrosses (p : ℕ) (text xs zs before after : List ℕ) (r : ℕ) : Type 0 where
+pub record AsRunCrosses (p : ℕ) (s : Source) (xs zs before after : List ℕ) (r : ℕ) : Type 0 where
   pub reply : ScheduleReply
-  pub right : AsRunIs p text xs zs before after reply
+  pub right : AsRunIs p s xs zs before after reply
   pub crosses : r ≡ packedSchedule reply

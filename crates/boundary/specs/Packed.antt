@@ -1,7 +1,7 @@
 -- A reply as one number, and how the host's header takes it apart again. Definitions.
 use mathlib.Core.Path.{_≡_}
 use mathlib.Core.Bool.{cond}
-use Prim.Native.Nat.{ℕ, _+_, _*_, _/_, _%_, _^_, _≤_}
+use Prim.Native.Nat.{ℕ, _+_, _*_, _/_, _%_, _^_, _≤_, _<_}
 use lib.Dec.{eqb}
 use Rattle.rules.specs.declared.Verdict.{Verdict}
 use Rattle.rules.specs.declared.ScheduleReply.{ScheduleReply}
@@ -54,13 +54,13 @@ UnpackedSchedule schedule.Filled = Parts 5 0 0
 UnpackedSchedule (schedule.Missed t i) = Parts 2 t i
 UnpackedSchedule (schedule.Refused n p) = Parts 4 n p
 
--- HOW LARGE A REPLY IS: times are at most 2^48, the allowance that always decides; places are lines of a text of at most 4,096
--- bytes, or ids of at most five digits
+-- HOW LARGE A REPLY IS: times are at most 2^48, the allowance that always decides; numbers of refusals are below 32; places are lines
+-- of a text, or ids as they were read
 abbrev pub SmallMiss : ℕ → ℕ → Type 0
 SmallMiss t i = (t ≤ 2 ^ 48) × (i ≤ 255)
 
 abbrev pub SmallRefusal : ℕ → ℕ → Type 0
-SmallRefusal n p = (n ≤ 13) × (p ≤ 99999)
+SmallRefusal n p = (n < 32) × (p < 2 ^ 32)
 
 abbrev pub Small : Verdict → Type 0
 Small (verdict.Accepted n) = n ≤ 2 ^ 48

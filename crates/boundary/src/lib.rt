@@ -1,5 +1,6 @@
 // The C boundary: the four replies of the checker as thin extern "C" functions over numbers and slices. Any arguments have a reply:
 // no function here requires anything. host/ottersprawl.h declares them for C.
+ghost use Rattle.rules.specs.Sources.{textSource};
 ghost use Rattle.boundary.specs.Crossing.{VerdictCrosses, ResponsesCross, ScheduleCrosses, AsRunCrosses};
 
 mod little;
@@ -11,7 +12,7 @@ const RESPONSES_LEN: usize = 64;
 // Is the table on time under this policy? It spends an allowance of slots.
 #[no_mangle]
 pub extern "C" fn otter_verdict(policy: u32, allowance: u64, text: &[u8]) -> u64
-    ensures { λ r. ⌜ VerdictCrosses policy allowance (now (text .entry)) r ⌝ }
+    ensures { λ r. ⌜ VerdictCrosses policy allowance (textSource (now (text .entry))) r ⌝ }
 {
     pack::verdict(checker::verdict(policy, allowance, text))
 }
@@ -25,7 +26,7 @@ pub extern "C" fn otter_responses(
     text: &[u8],
     responses: &mut [u8],
 ) -> u64
-    ensures { λ r. ⌜ ResponsesCross policy allowance (now (text .entry)) (now (responses .entry)) (now (responses .exit)) r ⌝ }
+    ensures { λ r. ⌜ ResponsesCross policy allowance (textSource (now (text .entry))) (now (responses .entry)) (now (responses .exit)) r ⌝ }
 {
     if table::policy_wrong(policy) {
         return pack::refused(table::POLICY_WRONG);
@@ -43,7 +44,7 @@ pub extern "C" fn otter_responses(
 // Two bytes a slot, id and kind, of the schedule.
 #[no_mangle]
 pub extern "C" fn otter_schedule(policy: u32, text: &[u8], slots: &mut [u8]) -> u64
-    ensures { λ r. ⌜ ScheduleCrosses policy (now (text .entry)) (now (slots .entry)) (now (slots .exit)) r ⌝ }
+    ensures { λ r. ⌜ ScheduleCrosses policy (textSource (now (text .entry))) (now (slots .entry)) (now (slots .exit)) r ⌝ }
 {
     pack::schedule(checker::schedule(policy, text, slots))
 }
@@ -57,7 +58,7 @@ pub extern "C" fn otter_as_run(
     loadings: &[u32],
     slots: &mut [u8],
 ) -> u64
-    ensures { λ r. ⌜ AsRunCrosses policy (now (text .entry)) (now (requests .entry)) (now (loadings .entry)) (now (slots .entry)) (now (slots .exit)) r ⌝ }
+    ensures { λ r. ⌜ AsRunCrosses policy (textSource (now (text .entry))) (now (requests .entry)) (now (loadings .entry)) (now (slots .entry)) (now (slots .exit)) r ⌝ }
 {
     pack::schedule(checker::as_run(policy, text, requests, loadings, slots))
 }

@@ -1,6 +1,6 @@
 // A reply as one number: the kind in the lowest place, then the number and the place.
 ghost use mathlib.Core.Path.{_≡_};
-ghost use Prim.Native.Nat.{_≤_};
+ghost use Prim.Native.Nat.{_<_};
 ghost use Rattle.rules.specs.declared.Verdict.the-variants.{Refused};
 ghost use Rattle.boundary.specs.Packed.{packedMiss, packedRefusal, packed, packedSchedule, SmallMiss, SmallRefusal, Small, SmallSchedule};
 use rules::ScheduleReply;
@@ -40,7 +40,7 @@ fn refusal(number: u32, place: u64) -> u64
 
 // A refusal whose place is 0.
 pub fn refused(number: u32) -> u64
-    requires { ⌜ number ≤ 13 ⌝ }
+    requires { ⌜ number < 32 ⌝ }
     ensures { λ r. ⌜ r ≡ packed (Refused number 0) ⌝ }
 {
     refusal(number, 0)

@@ -1,77 +1,78 @@
 -- What the code holds after the checks: the refusal that the rules give; or, where there is none, a sound table whose tasks are the
--- text's. The four replies use it.
+-- source's. The four replies use it.
 use mathlib.Core.Path.{_≡_, sym, ap, _∙_}
 use mathlib.Core.Bool.{Bool, false}
-use mathlib.Core.List.{List, _++_}
-use Prim.Native.Nat.{ℕ}
+use Prim.Native.Nat.{ℕ, _≤_}
 use native.Mathlib.Omega.{arith}
-use lib.ListN.{length, replicate, length-append, length-replicate}
-use lib.Seq.{length-take-le}
+use borrow.Author.Tests.{eq-eqb}
+use lib.ListN.{length, take, drop}
+use lib.Seq.{length-front, length-take-le, take-at}
 use Rattle.rules.specs.declared.Refusal.{Refusal}
-use Rattle.rules.specs.declared.Row.{Row}
-use Rattle.rules.specs.declared.TableRead.{TableRead}
-use Rattle.rules.specs.Text.{rowsOf}
-use Rattle.rules.specs.Table.{noRow, canonical, padded, tableOf}
-use Rattle.rules.specs.Checks.{check, policyWrong, tableRead}
+use Rattle.rules.specs.declared.RowsRead.{RowsRead}
+use Rattle.rules.specs.Table.{canonical}
+use Rattle.rules.specs.Sources.{rowsIn, sourceOf}
+use Rattle.rules.specs.Checks.{refusalOf, policyWrong, refusalFor}
 use Rattle.rules.specs.Policies.{policy, system}
 use Rattle.rules.specs.Verdicts.{tasksOf, systemOf}
-use Rattle.reordering.specs.Canonical.{canonical-rows, canonical-length, canonical-omax, canonical-hyper}
-use Rattle.reordering.specs.Passed.{Passed, PassedText, passed, passed-canonical}
+use Rattle.reordering.specs.Canonical.{canonical-length, canonical-omax, canonical-hyper}
+use Rattle.reordering.specs.Passed.{Passed, passed, passed-canonical}
+use Rattle.reordering.specs.Alike.{rows-count, rows-first}
 use Rattle.basics.specs.Cases.{test}
-use Rattle.checker.specs.Admitted.{admitted}
-use Rattle.checker.specs.Machine.{Sound, live, systemIn}
+use Rattle.table.specs.declared.TableRead.{TableRead}
+use Rattle.table.specs.Tables.{tableIn, tableRead}
+use Rattle.machine.specs.Machine.{Sound, live, systemIn}
 
-padded-length : (rows : List Row) → length (padded rows) ≡ 16
-padded-length rows = length-take-le 16 (rows ++ replicate 16 noRow) (rw (length-append, length-replicate) (omega arith))
+-- THE TABLE of rows that pass, of which sixteen are held
+module _ (s : RowsRead) (full : length (s .rows) ≡ 16) (p : Passed (rowsIn s)) where
+  few : s .count ≤ 16
+  few = omega (arith, rows-count s, p .few)
 
-sound-rows : (rows : List Row) → Passed rows → Sound (tableOf rows)
-sound-rows rows p =
-    let e = canonical-rows rows (p .few) in
-    record {
-      full = padded-length (canonical rows);
-      count = rw e (canonical-length rows);
-      passed = rw e (passed-canonical rows p);
-      omax = rw e (sym (canonical-omax rows));
-      hyper = rw e (sym (canonical-hyper rows));
-    }
+  rows-are : rowsIn s ≡ take (s .count) (s .rows)
+  rows-are = rows-first s (omega (arith, few))
 
--- the refusal by checks 1, 2 and those of the text: verdict's where nothing is unfit, the others' by what their buffer has to be
-abbrev pub refusalOf : ℕ → Bool → List ℕ → Refusal
-refusalOf p unfit text = check 1 (policyWrong p) (check 2 unfit (tableRead text .refusal))
+  sorted-count : length (canonical (take (s .count) (s .rows))) ≡ s .count
+  sorted-count = canonical-length (take (s .count) (s .rows)) ∙ length-take-le (s .count) (s .rows) (omega (arith, few))
 
-refusal-admitted : (p : ℕ) (b : Bool) (s : List ℕ) → refusalOf p b s ≡ admitted p b s .refusal
-unfolding admitted
-refusal-admitted p b s = test (policyWrong p) (λ e. rw e) (λ e. rw e (test b (λ k. rw k) (λ k. rw k)))
+  live-rows : live (tableIn s) ≡ canonical (rowsIn s)
+  live-rows = take-at (canonical (take (s .count) (s .rows))) (drop (s .count) (s .rows)) (s .count) sorted-count ∙ ap canonical (sym rows-are)
 
-table-admitted : (p : ℕ) (b : Bool) (s : List ℕ) → admitted p b s .refusal .number ≡ 0 → (b ≡ false) × (admitted p b s ≡ tableRead s)
-unfolding admitted
-table-admitted p b s h = test (policyWrong p)
-    (λ e. absurd (omega (arith, rw e at h)))
-    (λ e. test b (λ k. absurd (omega (arith, rw (e, k) at h))) (λ k. (k, rw (e, k))))
+  sound-rows : Sound (tableIn s)
+  sound-rows = record {
+    full = length-front (s .rows) (canonical (take (s .count) (s .rows))) (s .count) (canonical-length (take (s .count) (s .rows))) ∙ full;
+    count = rw live-rows (canonical-length (rowsIn s) ∙ rows-count s);
+    passed = rw live-rows (passed-canonical (rowsIn s) p);
+    omax = rw (live-rows, rows-are) (sym (canonical-omax (take (s .count) (s .rows))));
+    hyper = rw (live-rows, rows-are) (sym (canonical-hyper (take (s .count) (s .rows))));
+  }
 
--- what is admitted, as the code holds it: g
-module _ (p : ℕ) (b : Bool) (s : List ℕ) {g : TableRead} (e : g ≡ admitted p b s) where
-  pub refusal-in : refusalOf p b s ≡ g .refusal
-  refusal-in = refusal-admitted p b s ∙ ap (λ (r : TableRead). r .refusal) (sym e)
+-- WHAT `check` HANDS OVER, as the code holds it: g
+module _ (p : ℕ) (b : Bool) (s : RowsRead) {g : TableRead} (e : g ≡ tableRead p b s) where
+  pub refusal-in : refusalFor p b (sourceOf s) ≡ g .refusal
+  unfolding tableRead
+  refusal-in = ap (λ (r : TableRead). r .refusal) (sym e)
 
   module _ (fine : g .refusal .number ≡ 0) where
-    pub none-in : refusalOf p b s .number ≡ 0
+    pub none-in : refusalFor p b (sourceOf s) .number ≡ 0
     none-in = ap (λ (f : Refusal). f .number) refusal-in ∙ fine
 
+    passes : (b ≡ false) × (refusalOf (sourceOf s) .number ≡ 0)
+    passes = test (policyWrong p)
+        (λ k. absurd (omega (arith, rw k at none-in)))
+        (λ k. test b (λ h. absurd (omega (arith, rw (k, h) at none-in))) (λ h. (h, rw (k, h) at none-in)))
+
     pub fit-in : b ≡ false
-    fit-in = table-admitted p b s (rw e at fine) .0
+    fit-in = passes .0
 
-    read : g ≡ tableRead s
-    read = e ∙ table-admitted p b s (rw e at fine) .1
+    table-in : g .table ≡ tableIn s
+    unfolding tableRead
+    table-in = ap (λ (r : TableRead). r .table) e ∙ rw (eq-eqb (refusalFor p b (sourceOf s) .number) 0 none-in)
 
-    text-in : PassedText s
-    text-in = passed s (rw read at fine)
+    module _ (full : length (s .rows) ≡ 16) where
+      pub sound-in : Sound (g .table)
+      sound-in = rw table-in (sound-rows s full (passed (sourceOf s) (passes .1) .1))
 
-    pub sound-in : Sound (g .table)
-    sound-in = rw (read, text-in .table) (sound-rows (rowsOf s) (text-in .rows))
+      pub tasks-in : live (g .table) ≡ tasksOf (sourceOf s)
+      tasks-in = rw table-in (live-rows s full (passed (sourceOf s) (passes .1) .1))
 
-    pub tasks-in : live (g .table) ≡ tasksOf s
-    tasks-in = rw (read, text-in .table) (canonical-rows (rowsOf s) (text-in .rows .few))
-
-    pub system-in : systemIn p (g .table) ≡ systemOf p s
-    system-in = ap (system (policy p)) tasks-in
+      pub system-in : systemIn p (g .table) ≡ systemOf p (sourceOf s)
+      system-in = ap (system (policy p)) tasks-in

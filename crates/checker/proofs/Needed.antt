@@ -23,10 +23,10 @@ use Rattle.theory.specs.Decides.{Within}
 use Rattle.theory.specs.Rows as rows
 use Rattle.theory.specs.Ends.{end-missed, end-through, end-settled}
 use Rattle.theory.specs.Completions.{seen-worst}
-use Rattle.checker.specs.declared.machine.Stop.{Stop}
-use Rattle.checker.specs.Machine.{live, Sound, systemIn, choices, missAt, markOf, SameAt, Repeats, Ran}
+use Rattle.machine.specs.declared.Stop.{Stop}
+use Rattle.machine.specs.Machine.{live, Sound, systemIn, choices, missAt, markOf, SameAt, Repeats, Ran}
 use Rattle.checker.specs.Outcomes.{acceptedOf, Outcomes}
-use Rattle.checker.proofs.SoundTables.{valid, id-in, deadline-some}
+use Rattle.machine.proofs.SoundTables.{valid, id-in, deadline-some}
 
 -- a run that stopped with no miss has none up to where it stopped. `Written` uses it too
 pub clean-upto : {p : ℕ} {t : Table} {xs zs : List ℕ} {first end : ℕ} {q : Stop} → Ran p t xs zs first end q → q .miss ≡ 0

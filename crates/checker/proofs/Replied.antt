@@ -1,6 +1,6 @@
--- From the table in hand to the reply to its text: a refusal is given as it is, what is decided of the table is decided of the text,
--- and what responses leaves in the lent numbers is what the rules say. `verdict` and `responses` use it, and
--- the boundary, which makes checks 1 and 2 of its own bytes.
+-- From the table in hand to the reply to its source: a refusal is given as it is, what is decided of the table is decided of the source,
+-- and what responses leaves in the lent numbers is what the rules say. `verdict_of` and `responses_of` use it, and the boundary, which
+-- makes checks 1 and 2 of its own bytes.
 use mathlib.Core.Path.{_≡_, refl}
 use mathlib.Core.Logic.{_≢_}
 use mathlib.Core.Bool.{Bool, true, false}
@@ -9,18 +9,20 @@ use Prim.Native.Nat.{ℕ, _<_}
 use native.Mathlib.Omega.{arith}
 use lib.ListN.{length}
 use Rattle.rules.specs.declared.Refusal.{Refusal}
-use Rattle.rules.specs.declared.TableRead.{TableRead}
+use Rattle.rules.specs.declared.RowsRead.{RowsRead}
 use Rattle.rules.specs.declared.Verdict.{Verdict}
 use Rattle.rules.specs.declared.Verdict.the-variants.{Accepted, Missed, Undecided, Refused}
-use Rattle.rules.specs.Checks.{check}
+use Rattle.rules.specs.Sources.{sourceOf}
+use Rattle.rules.specs.Checks.{check, refusalFor}
 use Rattle.rules.specs.Policies.{System}
-use Rattle.rules.specs.Verdicts.{systemOf, Replies, Hold, Leaves}
+use Rattle.rules.specs.Verdicts.{systemOf, DecidesOf, Replies, Hold, Leaves}
 use Rattle.basics.specs.Cases.{clash}
+use Rattle.table.specs.declared.TableRead.{TableRead}
+use Rattle.table.specs.Tables.{tableRead}
 use Rattle.checker.specs.declared.decide.Outcome.{Outcome}
-use Rattle.checker.specs.Admitted.{admitted}
-use Rattle.checker.specs.Machine.{systemIn}
+use Rattle.machine.specs.Machine.{systemIn}
 use Rattle.checker.specs.Outcomes.{acceptedOf, Outcomes, Wrote}
-use Rattle.checker.proofs.InHand.{refusalOf, none-in, sound-in, tasks-in}
+use Rattle.checker.proofs.InHand.{none-in, sound-in, tasks-in}
 
 -- THE REFUSAL
 
@@ -31,31 +33,31 @@ fails n b f e k = rw (← e, k) refl
 pub passes : (n : ℕ) (b : Bool) {w : Bool} {f g : Refusal} → w ≡ b → w ≡ false → f ≡ g → check n b f ≡ g
 passes n b e k h = rw (← e, k) h
 
-pub given : {f g : Refusal} → f ≡ g → g .number ≢ 0 → (p a : ℕ) (text : List ℕ) → Replies f p a text (Refused (g .number) (g .place))
-given e some p a text = rw e (record { refused = λ x. refl; decided = λ z. absurd (some z) })
+pub given : {f g : Refusal} → f ≡ g → g .number ≢ 0 → (Right : Verdict → Type 0) → Replies f Right (Refused (g .number) (g .place))
+given e some Right = rw e (record { refused = λ x. refl; decided = λ z. absurd (some z) })
 
--- THE TABLE ADMITTED
-module _ {p a : ℕ} (b : Bool) (text : List ℕ) {g : TableRead} (e : g ≡ admitted p b text) (fine : g .refusal .number ≡ 0) {o : Outcome}
-    (d : Outcomes p (g .table) a o) where
-  pub decided : Replies (refusalOf p b text) p a text (o .verdict)
+-- THE TABLE IN HAND
+module _ {p a : ℕ} (b : Bool) (s : RowsRead) {g : TableRead} (e : g ≡ tableRead p b s) (fine : g .refusal .number ≡ 0) (full : length (s .rows) ≡ 16)
+    {o : Outcome} (d : Outcomes p (g .table) a o) where
+  pub decided : Replies (refusalFor p b (sourceOf s)) (DecidesOf p a (sourceOf s)) (o .verdict)
   decided = record {
-    refused = λ x. absurd (x (none-in p b text e fine));
-    decided = λ z. rw (tasks-in p b text e fine) at (d .decides);
+    refused = λ x. absurd (x (none-in p b s e fine));
+    decided = λ z. rw (tasks-in p b s e fine full) at (d .decides);
   }
 
   -- THE LENT NUMBERS: written where it is accepted
   module _ {before after : List ℕ} (w : Wrote (g .table .count) (o .worst) before after) where
     hold : (n : ℕ) → o .verdict ≡ Accepted n → Hold (systemIn p (g .table)) before after
     hold n v =
-        let size = sound-in p b text e fine .count in
+        let size = sound-in p b s e fine full .count in
         record {
           length = w .size;
           worst = λ i h. let low : i < g .table .count = omega arith in rw (w .worst i low) (d .worst n v i low);
           rest = rw size (w .rest);
         }
 
-    pub accepted-leaves : acceptedOf (o .verdict) ≡ true → Leaves (systemOf p text) (o .verdict) before after
-    accepted-leaves k = rw (tasks-in p b text e fine) at (go (o .verdict) k hold)
+    pub accepted-leaves : acceptedOf (o .verdict) ≡ true → Leaves (systemOf p (sourceOf s)) (o .verdict) before after
+    accepted-leaves k = rw (tasks-in p b s e fine full) at (go (o .verdict) k hold)
       where
         go : (v : Verdict) → acceptedOf v ≡ true → ((n : ℕ) → v ≡ Accepted n → Hold (systemIn p (g .table)) before after)
             → Leaves (systemIn p (g .table)) v before after

@@ -1,5 +1,5 @@
 -- From a painted buffer to the bytes and the reply that the rules ask: `written-whole` for the bytes, one law for each end of
--- `as_run`, and `schedule-as-run`. The idea: what follows slot t in the buffer is what the rules write from t on, by the slots that
+-- `as_run_of`, and `schedule-as-run`. The idea: what follows slot t in the buffer is what the rules write from t on, by the slots that
 -- remain. Up to the first miss the two bytes of a slot are the run's, and from there on 0 and 3.
 use mathlib.Core.Path.{_≡_, refl, ap, _∙_}
 use mathlib.Core.Logic.{_≢_, inl}
@@ -15,10 +15,11 @@ use Rattle.rules.specs.declared.Refusal.{Refusal}
 use Rattle.rules.specs.declared.ScheduleReply.{ScheduleReply}
 use Rattle.rules.specs.declared.ScheduleReply.the-variants.{Filled, Missed, Refused}
 use Rattle.rules.specs.declared.Table.{Table}
-use Rattle.rules.specs.declared.TableRead.{TableRead}
+use Rattle.rules.specs.declared.RowsRead.{RowsRead}
 use Rattle.rules.specs.Policies as policies
 use Rattle.rules.specs.Slots.{Choice, who, toLoad, run}
 use Rattle.rules.specs.Decided.{missedAt}
+use Rattle.rules.specs.Sources.{Source, sourceOf}
 use Rattle.rules.specs.Checks.{slotsWrong}
 use Rattle.rules.specs.AsRun.{listed}
 use Rattle.rules.specs.Schedules.{idByte, kindByte, marks, written, Writes, ScheduleIs, AsRunIs}
@@ -26,15 +27,16 @@ use Rattle.rules.specs.Table.{noRow}
 use Rattle.rules.specs.Verdicts.{systemOf}
 use Rattle.theory.specs.AsRun.{listed-nothing}
 use Rattle.basics.specs.Cases.{test, le-case, clash}
+use Rattle.table.specs.declared.TableRead.{TableRead}
+use Rattle.table.specs.Tables.{tableRead}
 use Rattle.slots.specs.Jobs.{never}
-use Rattle.checker.specs.declared.machine.Stop.{Stop}
-use Rattle.checker.specs.Admitted.{admitted}
-use Rattle.checker.specs.Machine.{Sound, live, systemIn, choices, missAt, Ran, PaintedRun}
-use Rattle.checker.specs.Paint.{Painted}
+use Rattle.machine.specs.declared.Stop.{Stop}
+use Rattle.machine.specs.Machine.{Sound, live, systemIn, choices, missAt, Ran, PaintedRun}
+use Rattle.machine.specs.Paint.{Painted}
 use Rattle.checker.proofs.InHand.{none-in, fit-in, sound-in, system-in}
 use Rattle.checker.proofs.Needed.{clean-upto}
-use Rattle.checker.proofs.Painted.{painted-none}
-use Rattle.checker.proofs.SoundTables.{id-in}
+use Rattle.machine.proofs.Painted.{painted-none}
+use Rattle.machine.proofs.SoundTables.{id-in}
 
 -- THE BYTES
 
@@ -134,16 +136,16 @@ pub writes-refused : {f g : Refusal} {y : policies.System} {c : ℕ → Choice} 
     → Writes f y c before before (Refused (g .number) (g .place))
 writes-refused e some = rw e (record { refused = λ h. (refl, refl); filled = λ h. absurd (some h) })
 
-module _ {p : ℕ} (s : List ℕ) {xs zs before mid : List ℕ} {g : TableRead} (e : g ≡ admitted p (slotsWrong (length before)) s) (fine : g .refusal .number ≡ 0)
-    {q : Stop} (ran : Ran p (g .table) xs zs never (length before / 2) q) (painted : PaintedRun p (g .table) xs zs 0 (q .time) before mid) where
-  pub as-run-filled : q .miss ≡ 0 → AsRunIs p s xs zs before mid Filled
-  as-run-filled m = writes-in xs zs (system-in p _ s e fine)
+module _ {p : ℕ} (s : RowsRead) {xs zs before mid : List ℕ} {g : TableRead} (e : g ≡ tableRead p (slotsWrong (length before)) s) (fine : g .refusal .number ≡ 0)
+    (full : length (s .rows) ≡ 16) {q : Stop} (ran : Ran p (g .table) xs zs never (length before / 2) q) (painted : PaintedRun p (g .table) xs zs 0 (q .time) before mid) where
+  pub as-run-filled : q .miss ≡ 0 → AsRunIs p (sourceOf s) xs zs before mid Filled
+  as-run-filled m = writes-in xs zs (system-in p _ s e fine full)
       (writes-filled p (g .table) xs zs _ (none-in p _ s e fine) (slots-fit (length before) (fit-in p _ s e fine) .0) q ran painted m)
 
   pub as-run-missed : {after : List ℕ} {i : ℕ} → 0 < q .miss → i ≡ getD (g .table .rows) (q .miss - 1) noRow .id
-      → Painted (λ u. 0) (λ u. 3) (q .time) (length before / 2) mid after → AsRunIs p s xs zs before after (Missed (q .time) i)
-  as-run-missed m its marked = writes-in xs zs (system-in p _ s e fine)
-      (writes-missed p (g .table) xs zs _ (none-in p _ s e fine) (slots-fit (length before) (fit-in p _ s e fine) .0) q ran painted (sound-in p _ s e fine) _ m its marked)
+      → Painted (λ u. 0) (λ u. 3) (q .time) (length before / 2) mid after → AsRunIs p (sourceOf s) xs zs before after (Missed (q .time) i)
+  as-run-missed m its marked = writes-in xs zs (system-in p _ s e fine full)
+      (writes-missed p (g .table) xs zs _ (none-in p _ s e fine) (slots-fit (length before) (fit-in p _ s e fine) .0) q ran painted (sound-in p _ s e fine full) _ m its marked)
 
 -- THE SCHEDULE is as run with no list
 
@@ -151,5 +153,5 @@ writes-as : {f : Refusal} {y : policies.System} {c d : ℕ → Choice} {before a
     → Writes f y c before after r → Writes f y d before after r
 writes-as e w = rw e at w
 
-pub schedule-as-run : (p : ℕ) (s before after : List ℕ) (r : ScheduleReply) → AsRunIs p s [] [] before after r → ScheduleIs p s before after r
+pub schedule-as-run : (p : ℕ) (s : Source) (before after : List ℕ) (r : ScheduleReply) → AsRunIs p s [] [] before after r → ScheduleIs p s before after r
 schedule-as-run p s before after r w = writes-as (listed-nothing (systemOf p s)) w

@@ -10,7 +10,7 @@ use Rattle.rules.specs.declared.Verdict.the-variants.{Accepted, Missed, Undecid
 use Rattle.rules.specs.Table.{omax, hyper}
 use Rattle.rules.specs.Verdicts.{Decides, Worst}
 use Rattle.checker.specs.declared.decide.Outcome.{Outcome}
-use Rattle.checker.specs.Machine.{live, systemIn}
+use Rattle.machine.specs.Machine.{live, systemIn}
 
 abbrev pub acceptedOf : Verdict → Bool
 acceptedOf (Accepted n) = true

@@ -2,7 +2,7 @@
 ghost use mathlib.Core.Path.{_≡_};
 ghost use Prim.Native.Nat.{_≤_, min};
 ghost use lib.ListN.{length};
-ghost use Rattle.checker.specs.Machine.{Sound};
+ghost use Rattle.machine.specs.Machine.{Sound};
 ghost use Rattle.checker.specs.Outcomes.{acceptedOf, Outcomes, Wrote};
 use rules::Table;
 use rules::Verdict;
@@ -44,7 +44,7 @@ pub fn decide(t: Table, policy: u32, allowance: u64) -> Outcome
     let mut slots = [0u8; 1];
     let first = t.omax as u64;
     let end = enough(allowance);
-    let q = crate::machine::run(
+    let q = machine::run(
         t,
         policy,
         first,
@@ -56,7 +56,7 @@ pub fn decide(t: Table, policy: u32, allowance: u64) -> Outcome
     let w = q.worst;
     let m = q.miss;
     if 0 < m {
-        let i = crate::machine::id_of(t, m);
+        let i = machine::id_of(t, m);
         return Outcome {
             verdict: Verdict::Missed {
                 time: q.time,

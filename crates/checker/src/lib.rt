@@ -1,24 +1,21 @@
-// The checker: verdict, responses, schedule and as run, the four replies of the product. Whatever the input, each has a reply,
-// and its contract is the definition of the rules. The C boundary and the programs use it.
+// The checker: verdict, responses, schedule and as run, the four replies of the product, each over whatever a reader hands over and over
+// a text. Whatever the input, each has a reply, and its contract is the definition of the rules. The C boundary and the programs use it.
+ghost use Rattle.rules.specs.Sources.{textSource, sourceOf};
 ghost use Rattle.rules.specs.Verdicts.{VerdictIs, ResponsesAre};
 ghost use Rattle.rules.specs.Schedules.{ScheduleIs, AsRunIs};
+use rules::RowsRead;
 use rules::ScheduleReply;
 use rules::Verdict;
 
-mod admit;
 mod decide;
-mod join;
-mod least;
-mod machine;
-mod marks;
-mod paint;
-mod turn;
+
+// OF WHAT A READER HANDS OVER
 
 // Is the table on time under this policy? It spends an allowance of slots.
-pub fn verdict(policy: u32, allowance: u64, text: &[u8]) -> Verdict
-    ensures { λ r. ⌜ VerdictIs policy allowance (now (text .entry)) r ⌝ }
+pub fn verdict_of(policy: u32, allowance: u64, source: RowsRead) -> Verdict
+    ensures { λ r. ⌜ VerdictIs policy allowance (sourceOf source) r ⌝ }
 {
-    let g = admit::admit(policy, false, text);
+    let g = table::check(policy, false, source);
     let f = g.refusal;
     if f.number != 0 {
         return Verdict::Refused {
@@ -32,10 +29,10 @@ pub fn verdict(policy: u32, allowance: u64, text: &[u8]) -> Verdict
 }
 
 // The verdict; if it is accepted, the lent numbers hold the worst responses in ascending id.
-pub fn responses(policy: u32, allowance: u64, text: &[u8], numbers: &mut [u32]) -> Verdict
-    ensures { λ r. ⌜ ResponsesAre policy allowance (now (text .entry)) (now (numbers .entry)) (now (numbers .exit)) r ⌝ }
+pub fn responses_of(policy: u32, allowance: u64, source: RowsRead, numbers: &mut [u32]) -> Verdict
+    ensures { λ r. ⌜ ResponsesAre policy allowance (sourceOf source) (now (numbers .entry)) (now (numbers .exit)) r ⌝ }
 {
-    let g = admit::admit(policy, table::responses_wrong(numbers.len()), text);
+    let g = table::check(policy, table::responses_wrong(numbers.len()), source);
     let f = g.refusal;
     if f.number != 0 {
         return Verdict::Refused {
@@ -55,16 +52,16 @@ pub fn responses(policy: u32, allowance: u64, text: &[u8], numbers: &mut [u32]) 
 }
 
 // Two bytes a slot, id and kind, of the run with these requests and loading lengths.
-pub fn as_run(
+pub fn as_run_of(
     policy: u32,
-    text: &[u8],
+    source: RowsRead,
     requests: &[u32],
     loadings: &[u32],
     slots: &mut [u8],
 ) -> ScheduleReply
-    ensures { λ r. ⌜ AsRunIs policy (now (text .entry)) (now (requests .entry)) (now (loadings .entry)) (now (slots .entry)) (now (slots .exit)) r ⌝ }
+    ensures { λ r. ⌜ AsRunIs policy (sourceOf source) (now (requests .entry)) (now (loadings .entry)) (now (slots .entry)) (now (slots .exit)) r ⌝ }
 {
-    let g = admit::admit(policy, table::slots_wrong(slots.len()), text);
+    let g = table::check(policy, table::slots_wrong(slots.len()), source);
     let f = g.refusal;
     if f.number != 0 {
         return ScheduleReply::Refused {
@@ -78,7 +75,7 @@ pub fn as_run(
     let m = q.miss;
     if 0 < m {
         let from = q.time as usize;
-        paint::fill(slots, from, n, 0, 3);
+        machine::paint::fill(slots, from, n, 0, 3);
         return ScheduleReply::Missed {
             time: q.time,
             id: machine::id_of(t, m),
@@ -88,10 +85,42 @@ pub fn as_run(
 }
 
 // Two bytes a slot, id and kind, of the schedule.
-pub fn schedule(policy: u32, text: &[u8], slots: &mut [u8]) -> ScheduleReply
-    ensures { λ r. ⌜ ScheduleIs policy (now (text .entry)) (now (slots .entry)) (now (slots .exit)) r ⌝ }
+pub fn schedule_of(policy: u32, source: RowsRead, slots: &mut [u8]) -> ScheduleReply
+    ensures { λ r. ⌜ ScheduleIs policy (sourceOf source) (now (slots .entry)) (now (slots .exit)) r ⌝ }
 {
     let requests = [0u32; 1];
     let loadings = [0u32; 1];
-    as_run(policy, text, &requests[..0], &loadings[..0], slots)
+    as_run_of(policy, source, &requests[..0], &loadings[..0], slots)
+}
+
+// OF A TEXT
+
+pub fn verdict(policy: u32, allowance: u64, text: &[u8]) -> Verdict
+    ensures { λ r. ⌜ VerdictIs policy allowance (textSource (now (text .entry))) r ⌝ }
+{
+    verdict_of(policy, allowance, csv::read_rows(text))
+}
+
+pub fn responses(policy: u32, allowance: u64, text: &[u8], numbers: &mut [u32]) -> Verdict
+    ensures { λ r. ⌜ ResponsesAre policy allowance (textSource (now (text .entry))) (now (numbers .entry)) (now (numbers .exit)) r ⌝ }
+{
+    responses_of(policy, allowance, csv::read_rows(text), numbers)
+}
+
+pub fn as_run(
+    policy: u32,
+    text: &[u8],
+    requests: &[u32],
+    loadings: &[u32],
+    slots: &mut [u8],
+) -> ScheduleReply
+    ensures { λ r. ⌜ AsRunIs policy (textSource (now (text .entry))) (now (requests .entry)) (now (loadings .entry)) (now (slots .entry)) (now (slots .exit)) r ⌝ }
+{
+    as_run_of(policy, csv::read_rows(text), requests, loadings, slots)
+}
+
+pub fn schedule(policy: u32, text: &[u8], slots: &mut [u8]) -> ScheduleReply
+    ensures { λ r. ⌜ ScheduleIs policy (textSource (now (text .entry))) (now (slots .entry)) (now (slots .exit)) r ⌝ }
+{
+    schedule_of(policy, csv::read_rows(text), slots)
 }

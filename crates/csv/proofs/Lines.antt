@@ -10,13 +10,14 @@ use native.Mathlib.Omega.{arith}
 use lib.Dec.{eqb, ltb}
 use lib.ListN.{length, take, drop, getD, set, replicate, length-drop, length-append, drop-of-length-le, length-take}
 use lib.Seq.{drop-cons, take-append-le, take-set-lt, set-append-seam, set-out, set-getD}
-use borrow.Author.Tests.{ne-eqb, ltb-true, ltb-false}
+use borrow.Author.Tests.{ne-eqb, le-leb, lt-leb, ltb-true, ltb-false}
 use Rattle.rules.specs.Table.{noRow, padded}
 use Rattle.rules.specs.Text.{nil, breaks, opened, lines, wellFormed, rowOf, header, same, firstBad, badLine, rowsOf}
-use Rattle.csv.specs.Reader.{line, after, stop, width, begins, headAt, keptOf, keepOf, readingOf, rowAt}
+use Rattle.rules.specs.Sources.{nothing, given, refusedBy, textSource, readOf}
+use Rattle.csv.specs.Reader.{line, after, stop, width, begins, headAt, keepOf, rowAt}
 use Rattle.rules.specs.declared.Row.{Row}
+use Rattle.rules.specs.declared.RowsRead.{RowsRead}
 use Rattle.csv.specs.declared.RowRead.{RowRead}
-use Rattle.csv.specs.declared.Kept.{Kept}
 use Rattle.basics.specs.Cases.{test, clash, eq-case, both-true}
 use Rattle.csv.proofs.Fields.{part-rest, width-le}
 use Rattle.csv.proofs.Rows.{is-cr, comma-breaks}
@@ -231,42 +232,45 @@ keep-rows acc r = test (ltb (length acc) 16) (λ e. few (ltb-true (length acc) 1
         let short : length (padded acc) ≤ length acc = omega (arith, length-take 16 (acc ++ replicate 16 noRow)) in
         set-out _ (length acc) r short ∙ take-append-le 16 acc (replicate 16 noRow) h ∙ sym (take-append-le 16 acc (r ∷ replicate 16 noRow) h) ∙ ap (take 16) (sym flat)
 
-keep-one : (acc : List Row) (r : Row) → keepOf (keptOf acc) r ≡ keptOf (acc ++ (r ∷ []))
+keep-one : (acc : List Row) (r : Row) → keepOf (readOf (given acc)) r ≡ readOf (given (acc ++ (r ∷ [])))
 keep-one acc r =
     let n : length acc + 1 ≡ length (acc ++ (r ∷ [])) = sym (length-append acc (r ∷ [])) in
-    λ k. record { rows = keep-rows acc r k; count = n k }
+    λ k. record { refusal = nothing; rows = keep-rows acc r k; count = n k }
+
+-- the rows so far, which are no refusal
+abbrev pub rowsSoFar : List Row → ℕ → RowsRead
+rowsSoFar rows n = record { rows = rows; count = n; refusal = nothing }
 
 -- a row more, stored in its place or, past sixteen, not at all
-pub keep-in : (k : Kept) → length (k .rows) ≡ 16 → (r : Row) (j : ℕ) → j ≡ min (k .count) 15 → (w : Row) → w ≡ cond (ltb (k .count) 16) r (getD (k .rows) j noRow)
-    → record { rows = set (k .rows) j w; count = k .count + 1 } ≡ keepOf k r
-keep-in k full r j ej w ew = λ i. record { rows = rows i; count = k .count + 1 }
+pub keep-in : (rows : List Row) (n : ℕ) → length rows ≡ 16 → (r : Row) (j : ℕ) → j ≡ min n 15 → (w : Row) → w ≡ cond (ltb n 16) r (getD rows j noRow)
+    → rowsSoFar (set rows j w) (n + 1) ≡ keepOf (rowsSoFar rows n) r
+keep-in rows n full r j ej w ew = λ i. rowsSoFar (stored i) (n + 1)
   where
-    rows : set (k .rows) j w ≡ set (k .rows) (k .count) r
-    rows = test (ltb (k .count) 16)
-        (λ e. let here : j ≡ k .count = omega (arith, ej, ltb-true (k .count) 16 e) in
-        rw here (ap (set (k .rows) (k .count)) (ew ∙ rw e)))
-        (λ e. let past : length (k .rows) ≤ k .count = omega (arith, full, ltb-false (k .count) 16 e) in
-        let same : set (k .rows) j w ≡ set (k .rows) j (getD (k .rows) j noRow) = ap (set (k .rows) j) (ew ∙ rw e) in
-        same ∙ set-getD (k .rows) j noRow ∙ sym (set-out (k .rows) (k .count) r past))
+    stored : set rows j w ≡ set rows n r
+    stored = test (ltb n 16)
+        (λ e. let here : j ≡ n = omega (arith, ej, ltb-true n 16 e) in
+        rw here (ap (set rows n) (ew ∙ rw e)))
+        (λ e. let past : length rows ≤ n = omega (arith, full, ltb-false n 16 e) in
+        let same : set rows j w ≡ set rows j (getD rows j noRow) = ap (set rows j) (ew ∙ rw e) in
+        same ∙ set-getD rows j noRow ∙ sym (set-out rows n r past))
 
 -- rows kept one after the other
-unfoldable pub keepAll : Kept → List Row → Kept
+unfoldable pub keepAll : RowsRead → List Row → RowsRead
 keepAll k [] = k
 keepAll k (r ∷ rs) = keepAll (keepOf k r) rs
 
-keep-all : (rs acc : List Row) → keepAll (keptOf acc) rs ≡ keptOf (acc ++ rs)
+keep-all : (rs acc : List Row) → keepAll (readOf (given acc)) rs ≡ readOf (given (acc ++ rs))
 unfolding keepAll
 keep-all [] acc = rw append-nil
-keep-all (r ∷ rs) acc = rw (keep-one acc r, keep-all rs (acc ++ (r ∷ []))) (ap keptOf (append-assoc acc (r ∷ []) rs))
+keep-all (r ∷ rs) acc = rw (keep-one acc r, keep-all rs (acc ++ (r ∷ []))) (ap (λ (rows : List Row). readOf (given rows)) (append-assoc acc (r ∷ []) rs))
 
--- the lines after the header read so far: t is left, from line n on
+-- the lines after the header read so far: t is left, two lines further than the rows kept
 module _ (s : List ℕ) where
-  abbrev pub Taking : Kept → List ℕ → ℕ → Type 0
-  Taking kept t n =
-      (length t + n ≤ length s + 2)
-      × (kept .count + 2 ≡ n)
-      × (firstBad 2 (more (after s)) ≡ firstBad n (more t))
-      × (keepAll (keptOf []) (map rowOf (more (after s))) ≡ keepAll kept (map rowOf (more t)))
+  abbrev pub Taking : RowsRead → List ℕ → Type 0
+  Taking kept t =
+      (length t + kept .count ≤ length s)
+      × (firstBad 2 (more (after s)) ≡ firstBad (kept .count + 2) (more t))
+      × (keepAll (readOf (given [])) (map rowOf (more (after s))) ≡ keepAll kept (map rowOf (more t)))
 
   bad-is : badLine s ≡ cond (same (line s) header) (firstBad 2 (more (after s))) 1
   bad-is = rw (lines-line s)
@@ -274,61 +278,68 @@ module _ (s : List ℕ) where
   rows-are : rowsOf s ≡ map rowOf (more (after s))
   rows-are = rw (lines-line s)
 
-  refused : (n : ℕ) → badLine s ≡ n → n ≢ 0 → record { line = n; kept = keptOf [] } ≡ readingOf s
-  refused n e h = rw (e, ne-eqb n 0 h)
+  pub long-refused : 4096 < length s → readOf (refusedBy 3 0) ≡ readOf (textSource s)
+  unfolding textSource
+  long-refused h = rw (lt-leb (length s) 4096 h)
 
-  head-refused : 0 ≡ headAt s → 0 < length s → record { line = 1; kept = keptOf [] } ≡ readingOf s
-  head-refused e h = refused 1 (bad-is ∙ rw off) (λ x. omega arith)
-    where
-      off : same (line s) header ≡ false
-      off = test (same (line s) header) (λ f. absurd (omega (arith, after-short s h, rw f at e))) (λ f. f)
+  -- a text that is not too long
+  module _ (short : length s ≤ 4096) where
+    refused : (n : ℕ) → badLine s ≡ n → n ≢ 0 → readOf (refusedBy 4 n) ≡ readOf (textSource s)
+    unfolding textSource
+    refused n e h = rw (le-leb (length s) 4096 short, e, ne-eqb n 0 h)
 
-  empty-refused : length s ≡ 0 → record { line = 1; kept = keptOf [] } ≡ readingOf s
-  unfolding begins header
-  empty-refused h = refused 1 (bad-is ∙ rw (none s h)) (λ x. omega arith)
-    where
-      none : (s : List ℕ) → length s ≡ 0 → same (line s) header ≡ false
-      none [] h = head-off [] refl
-      none (b ∷ s) h = absurd (omega arith)
+    head-refused : 0 ≡ headAt s → 0 < length s → readOf (refusedBy 4 1) ≡ readOf (textSource s)
+    head-refused e h = refused 1 (bad-is ∙ rw off) (λ x. omega arith)
+      where
+        off : same (line s) header ≡ false
+        off = test (same (line s) header) (λ f. absurd (omega (arith, after-short s h, rw f at e))) (λ f. f)
 
-  pub none-refused : (h : ℕ) → h ≡ headAt s → h ≡ 0 → record { line = 1; kept = keptOf [] } ≡ readingOf s
-  none-refused h e z = eq-case (length s) 0 empty-refused (λ n. head-refused (sym z ∙ e) (omega arith))
+    empty-refused : length s ≡ 0 → readOf (refusedBy 4 1) ≡ readOf (textSource s)
+    unfolding begins header
+    empty-refused h = refused 1 (bad-is ∙ rw (none s h)) (λ x. omega arith)
+      where
+        none : (s : List ℕ) → length s ≡ 0 → same (line s) header ≡ false
+        none [] h = head-off [] refl
+        none (b ∷ s) h = absurd (omega arith)
 
-  module _ (h : ℕ) (e : h ≡ headAt s) (ne : h ≢ 0) where
-    has-head : same (line s) header ≡ true
-    has-head = test (same (line s) header) (λ f. f) (λ f. absurd (ne (e ∙ rw f)))
+    pub none-refused : (h : ℕ) → h ≡ headAt s → h ≡ 0 → readOf (refusedBy 4 1) ≡ readOf (textSource s)
+    none-refused h e z = eq-case (length s) 0 empty-refused (λ n. head-refused (sym z ∙ e) (omega arith))
 
-    head-is : h ≡ length s - length (after s)
-    head-is = e ∙ rw has-head
+    module _ (h : ℕ) (e : h ≡ headAt s) (ne : h ≢ 0) where
+      has-head : same (line s) header ≡ true
+      has-head = test (same (line s) header) (λ f. f) (λ f. absurd (ne (e ∙ rw f)))
 
-    rest-is : take (length s - h) (drop h s) ≡ after s
-    rest-is = rw (part-rest h s, head-is) (after-part s)
+      head-is : h ≡ length s - length (after s)
+      head-is = e ∙ rw has-head
 
-    pub taking-start : Taking (keptOf []) (take (length s - h) (drop h s)) 2
-    taking-start = (omega (arith, ap length rest-is, after-le s), refl, rw rest-is, rw rest-is)
+      rest-is : take (length s - h) (drop h s) ≡ after s
+      rest-is = rw (part-rest h s, head-is) (after-part s)
 
-    module _ (kept : Kept) (t : List ℕ) (n : ℕ) (so : Taking kept t n) where
-      pub taking-bad : 0 < length t → (r : RowRead) → r ≡ rowAt t → r .good ≡ false → record { line = n; kept = keptOf [] } ≡ readingOf s
-      unfolding firstBad
-      taking-bad some r f g =
-          let ill : wellFormed (line t) ≡ false = sym (row-good t r f) ∙ g in
-          refused n (bad-is ∙ rw has-head (so .2 ∙ rw (more-line t some, ill))) (λ x. omega arith)
+      pub taking-start : Taking (readOf (given [])) (take (length s - h) (drop h s))
+      taking-start = (omega (arith, ap length rest-is, after-le s), rw rest-is, rw rest-is)
 
-      pub taking-turn : 0 < length t → (r : RowRead) → r ≡ rowAt t → r .good ≡ true
-          → Taking (keepOf kept (r .row)) (take (length t - r .used) (drop (r .used) t)) (n + 1)
-      unfolding firstBad keepAll
-      taking-turn some r f g =
-          let well : wellFormed (line t) ≡ true = sym (row-good t r f) ∙ g in
-          let left = row-left t r f g in (
-            omega (arith, ap length left, after-short t some, so .0),
-            omega (arith, so .1),
-            so .2 ∙ rw (left, more-line t some, well, add-one n),
-            so .3 ∙ rw (left, more-line t some, row-row t r f g),
-          )
+      module _ (kept : RowsRead) (t : List ℕ) (so : Taking kept t) where
+        pub taking-bad : 0 < length t → (r : RowRead) → r ≡ rowAt t → r .good ≡ false → readOf (refusedBy 4 (kept .count + 2)) ≡ readOf (textSource s)
+        unfolding firstBad
+        taking-bad some r f g =
+            let ill : wellFormed (line t) ≡ false = sym (row-good t r f) ∙ g in
+            refused (kept .count + 2) (bad-is ∙ rw has-head (so .1 ∙ rw (more-line t some, ill))) (λ x. omega arith)
 
-      pub taking-done : length t ≤ 0 → record { line = 0; kept = kept } ≡ readingOf s
-      unfolding firstBad keepAll
-      taking-done none =
-          let fine : badLine s ≡ 0 = bad-is ∙ rw has-head (so .2 ∙ rw (more-none t none)) in
-          let all : keptOf (rowsOf s) ≡ kept = ap keptOf rows-are ∙ sym (keep-all (map rowOf (more (after s))) []) ∙ so .3 ∙ rw (more-none t none) in
-          rw (fine, all)
+        pub taking-turn : 0 < length t → (r : RowRead) → r ≡ rowAt t → r .good ≡ true
+            → Taking (keepOf kept (r .row)) (take (length t - r .used) (drop (r .used) t))
+        unfolding firstBad keepAll
+        taking-turn some r f g =
+            let well : wellFormed (line t) ≡ true = sym (row-good t r f) ∙ g in
+            let left = row-left t r f g in
+            let next : kept .count + 1 + 2 ≡ suc (kept .count + 2) = omega arith in (
+              omega (arith, ap length left, after-short t some, so .0),
+              so .1 ∙ rw (left, more-line t some, well, next),
+              so .2 ∙ rw (left, more-line t some, row-row t r f g),
+            )
+
+        pub taking-done : length t ≤ 0 → kept ≡ readOf (textSource s)
+        unfolding firstBad keepAll textSource
+        taking-done none =
+            let fine : badLine s ≡ 0 = bad-is ∙ rw has-head (so .1 ∙ rw (more-none t none)) in
+            let all : readOf (given (map rowOf (more (after s)))) ≡ kept = sym (keep-all (map rowOf (more (after s))) []) ∙ so .2 ∙ rw (more-none t none) in
+            rw (le-leb (length s) 4096 short, fine, rows-are) (sym all)

@@ -1,17 +1,16 @@
 -- What the reader's functions return, on the text from a place on. Definitions; the contracts of this crate cite them, and its
--- laws tie them to the rules' words for a text, its lines and its fields. The crate table uses `keptOf` and `readingOf`.
+-- laws tie them to the rules' words for a text, its lines and its fields.
 use mathlib.Core.Bool.{Bool, true, false, cond, not}
 use mathlib.Core.List.{List, [], _∷_}
 use Prim.Native.Nat.{ℕ, _+_, _-_}
 use lib.Dec.{eqb}
 use lib.ListN.{length, drop, getD, set}
 use Rattle.rules.specs.declared.Row.{Row}
-use Rattle.rules.specs.Table.{noRow, padded}
-use Rattle.rules.specs.Text.{nil, breaks, digits, opens, inner, behind, closed, shaped, rowOf, wellFormed, header, same, badLine, rowsOf}
+use Rattle.rules.specs.declared.RowsRead.{RowsRead}
+use Rattle.rules.specs.Table.{noRow}
+use Rattle.rules.specs.Text.{nil, breaks, digits, opens, inner, behind, closed, shaped, rowOf, wellFormed, header, same}
 use Rattle.csv.specs.declared.Ending.{Ending}
 use Rattle.csv.specs.declared.RowRead.{RowRead}
-use Rattle.csv.specs.declared.Kept.{Kept}
-use Rattle.csv.specs.declared.Reading.{Reading}
 
 -- A FIELD AT THE FRONT
 
@@ -69,13 +68,6 @@ headAt s = cond (same (line s) header) (length s - length (after s)) 0
 
 -- THE WHOLE TEXT
 
--- the first sixteen of the rows, and how many they are; with one row more
-abbrev pub keptOf : List Row → Kept
-keptOf rows = record { rows = padded rows; count = length rows }
-
-abbrev pub keepOf : Kept → Row → Kept
-keepOf k r = record { rows = set (k .rows) (k .count) r; count = k .count + 1 }
-
--- the first ill-formed line, or 0 and the rows
-abbrev pub readingOf : List ℕ → Reading
-readingOf s = record { line = badLine s; kept = cond (eqb (badLine s) 0) (keptOf (rowsOf s)) (keptOf []) }
+-- the rows so far, with one row more
+abbrev pub keepOf : RowsRead → Row → RowsRead
+keepOf k r = record { rows = set (k .rows) (k .count) r; count = k .count + 1; refusal = k .refusal }

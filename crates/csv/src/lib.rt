@@ -1,15 +1,22 @@
-// The reader of a table's text: the number of the first ill-formed line, or the rows. Only the crate table uses it; every
-// other crate asks that one for a table.
+// The reader of a table's text: the source that a text is, checks 3 and 4 of document 01 or the rows. The checker uses it for those of
+// its functions that take a text.
 ghost use mathlib.Core.Path.{_≡_};
 ghost use mathlib.Core.Bool.{false, cond};
-ghost use mathlib.Core.List.{[]};
 ghost use Prim.Native.Nat.{_-_, _≤_, min};
 ghost use lib.Dec.{eqb, ltb};
 ghost use lib.ListN.{length};
 ghost use Rattle.rules.specs.Text.{digits, inner, shaped, number};
-ghost use Rattle.csv.specs.Reader.{quotes, stop, width, endingAt, fits, rowAt, begins, headAt, keptOf, readingOf};
+ghost use Rattle.rules.specs.Sources.{textSource, readOf};
+ghost use Rattle.csv.specs.Reader.{quotes, stop, width, endingAt, fits, rowAt, begins, headAt};
+use rules::Refusal;
 use rules::Row;
+use rules::RowsRead;
 use rules::Table;
+
+// The numbers of the reader's own checks.
+const TEXT_LONG: u32 = 3;
+
+const LINE_ILL_FORMED: u32 = 4;
 
 // Fields of a line, and the place of the last one.
 const FIELDS: usize = 8;
@@ -56,30 +63,6 @@ pub struct RowRead {
     pub good: bool,
     pub row: Row,
     pub used: usize,
-}
-
-// The first sixteen rows, blank where there are fewer, and how many rows there were.
-pub struct Kept {
-    pub rows: [Row; 16],
-    pub count: usize,
-}
-
-// The whole text: its first ill-formed line and no rows, or 0 and the rows.
-pub struct Reading {
-    pub line: usize,
-    pub kept: Kept,
-}
-
-impl Kept {
-    pub fn empty() -> Kept
-        ensures { λ r. ⌜ r ≡ keptOf [] ⌝ }
-    {
-        let z = Row::blank();
-        Kept {
-            rows: [z; 16],
-            count: 0,
-        }
-    }
 }
 
 // One byte for an opening quote, if it is there.
@@ -355,39 +338,39 @@ fn kept_at(n: usize, r: Row, old: Row) -> Row
     old
 }
 
-// The whole text, line by line, up to the first ill-formed line or the end.
-pub fn read_rows(text: &[u8]) -> Reading
-    ensures { λ r. ⌜ r ≡ readingOf (now (text .entry)) ⌝ }
+// The whole text, line by line, up to the first ill-formed line or the end. The rows are stored where they stay.
+pub fn read_rows(text: &[u8]) -> RowsRead
+    ensures { λ r. ⌜ r ≡ readOf (textSource (now (text .entry))) ⌝ }
 {
-    let h = head(text);
-    let mut kept = Kept::empty();
-    if h == 0 {
-        return Reading {
-            line: 1,
-            kept: kept,
-        };
+    if Table::MAX_TEXT < text.len() {
+        return RowsRead::refused(TEXT_LONG, 0);
     }
+    let h = head(text);
+    if h == 0 {
+        return RowsRead::refused(LINE_ILL_FORMED, 1);
+    }
+    let z = Row::blank();
+    let mut rows = [z; 16];
+    let mut count: usize = 0;
     let mut t = &text[h..];
-    let mut n: usize = 2;
     while 0 < t.len() {
         let r = read_row(t);
         if !r.good {
-            return Reading {
-                line: n,
-                kept: Kept::empty(),
-            };
+            return RowsRead::refused(LINE_ILL_FORMED, count as u64 + 2);
         }
-        let c = kept.count;
-        let j = place_for(c);
-        let w = kept_at(c, r.row, kept.rows[j]);
-        kept.rows[j] = w;
-        kept.count = c + 1;
+        let j = place_for(count);
+        let w = kept_at(count, r.row, rows[j]);
+        rows[j] = w;
+        count += 1;
         let m = r.used;
         t = &t[m..];
-        n += 1;
     }
-    Reading {
-        line: 0,
-        kept: kept,
+    RowsRead {
+        rows: rows,
+        count: count,
+        refusal: Refusal {
+            number: 0,
+            place: 0,
+        },
     }
 }

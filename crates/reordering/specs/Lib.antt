@@ -2,4 +2,5 @@ pub mod All
 pub mod Permutations
 pub mod Canonical
 pub mod Passed
+pub mod Alike
 pub mod Reordering

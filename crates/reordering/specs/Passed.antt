@@ -1,21 +1,19 @@
--- What a table that passes the checks meets, as numbers, of its rows as written and of their canonical form. `passed` is the
+-- What a source that passes the checks meets, as numbers, of its rows as written and of their canonical form. `passed` is the
 -- law to cite; the crates that prove the schedule's laws of tables use it. The crate table uses the laws of rows for its one pass.
 use mathlib.Core.Path.{_≡_, refl, sym, ap}
 use mathlib.Core.Logic.{_≢_}
-use mathlib.Core.Bool.{Bool, true, false, _&&_}
-use mathlib.Core.List.{List, [], _∷_}
+use mathlib.Core.Bool.{Bool, true, false, cond, _&&_}
+use mathlib.Core.List.{List, [], _∷_, _++_}
 use Prim.Native.Nat.{ℕ, zero, suc, _+_, _≤_, _<_}
 use native.Mathlib.Omega.{arith}
 use lib.Dec.{eqb, leb, ltb}
 use lib.ListN.{length, getD}
-use borrow.Author.Tests.{eqb-true, eq-eqb, eqb-false, ne-eqb, leb-true, leb-false, ltb-false, not-false}
+use borrow.Author.Tests.{eqb-true, eq-eqb, ne-eqb, leb-true, leb-false, ltb-false, not-false}
 use Rattle.rules.specs.declared.Row.{Row}
-use Rattle.rules.specs.declared.Refusal.{Refusal}
-use Rattle.rules.specs.declared.TableRead.{TableRead}
-use Rattle.rules.specs.Text.{badLine, rowsOf}
-use Rattle.rules.specs.Table.{noRow, canonical, hyper, tableOf}
-use Rattle.rules.specs.Checks.{within, idWrong, timeWrong, priorityWrong, orderWrong, resumeWrong, key, times, shared, fault, better, smallest, place, nothing, firstFault, checked, rowsChecked, tableRead}
-use Rattle.basics.specs.Cases.{test, eq-case, le-case, both-true, Each}
+use Rattle.rules.specs.Table.{noRow, canonical, hyper}
+use Rattle.rules.specs.Sources.{Source}
+use Rattle.rules.specs.Checks.{within, idWrong, timeWrong, priorityWrong, orderWrong, resumeWrong, key, times, shared, fault, better, smallest, place, found, rowChecks, checks, firstFault, refusalOf}
+use Rattle.basics.specs.Cases.{test, clash, eq-case, le-case, both-true, Each}
 use Rattle.reordering.specs.All.{All, all-at, all-from}
 use Rattle.reordering.specs.Permutations.{all-perm, times-perm}
 use Rattle.reordering.specs.Canonical.{canonical-same, canonical-length, canonical-hyper, canonical-ascending, ascending-at}
@@ -43,15 +41,29 @@ pub record Passed (rows : List Row) : Type 0 where
   pub priority-once : (x : ℕ) → times 10 x rows ≤ 1
   pub hyper-high : hyper rows ≤ 100000
 
--- checks 3 to 13 of a text
-pub record PassedText (s : List ℕ) : Type 0 where
-  pub short : length s ≤ 4096
-  pub well-formed : badLine s ≡ 0
-  pub rows : Passed (rowsOf s)
-  pub refusal : tableRead s .refusal ≡ nothing
-  pub table : tableRead s .table ≡ tableOf (rowsOf s)
+-- THE FIRST THAT FAILS, of a list of checks: where none is given, each of them passes
 
--- THE FIRST THAT FAILS: where none is given, check n finds no row, n from 6 to 12
+-- the number is in the list
+abbrev pub has : ℕ → List ℕ → Bool
+has n [] = false
+has n (m ∷ ms) = cond (eqb n m) true (has n ms)
+
+has-first : (n : ℕ) (ms ks : List ℕ) → has n ms ≡ true → has n (ms ++ ks) ≡ true
+has-first n [] ks h = clash h refl
+has-first n (m ∷ ms) ks h = test (eqb n m) (λ e. rw e refl) (λ e. rw e (has-first n ms ks (rw e at h)))
+
+pub none-found : (ns : List ℕ) (rows : List Row) → has 0 ns ≡ false → firstFault ns rows .number ≡ 0 → (n : ℕ) → has n ns ≡ true → found n rows ≡ 0
+unfolding firstFault
+none-found [] rows some h n m = clash m refl
+none-found (k ∷ ns) rows some h n m = eq-case 0 k
+    (λ z. clash (rw (eq-eqb 0 k z) refl) some)
+    (λ z. eq-case (found k rows) 0
+    (λ e. eq-case n k
+    (λ q. rw q e)
+    (λ q. none-found ns rows (rw (ne-eqb 0 k z) at some) (rw (eq-eqb (found k rows) 0 e) at h) n (rw (ne-eqb n k q) at m)))
+    (λ e. absurd (z (sym (rw (ne-eqb (found k rows) 0 e) at h)))))
+
+-- A ROW AT FAULT: where there is none, the check passes at every row
 
 better-some : (id b : ℕ) → better true id b ≢ 0
 better-some id b e = eq-case b 0
@@ -65,20 +77,9 @@ smallest-none p (r ∷ rs) b e =
     let x = smallest-none p rs (better (p r) (r .id) b) e in
     test (p r) (λ h. absurd (better-some (r .id) b (rw h at (x .0)))) (λ h. (rw h at (x .0), (h, x .1)))
 
-place-none : (d n : ℕ) (rows : List Row) → 0 < n → firstFault d n rows .number ≡ 0 → (k : ℕ) → n ≤ k → k < n + d → place k rows ≡ 0
-unfolding firstFault
-place-none zero n rows pos h k a b = absurd (omega arith)
-place-none (suc d) n rows pos h k a b = test (eqb (place n rows) 0)
-    (λ e. eq-case n k
-    (λ q. rw (← q) (eqb-true (place n rows) 0 e))
-    (λ q. place-none d (suc n) rows (omega arith) (rw e at h) k (omega arith) (omega arith)))
-    (λ e. absurd (omega (arith, rw e at h)))
-
-module _ (rows : List Row) (none : firstFault 7 6 rows .number ≡ 0) where
-  no-fault : (k : ℕ) → 6 ≤ k → k < 13 → (i : ℕ) → i < length rows → fault k rows (getD rows i noRow) ≡ false
-  unfolding place
-  no-fault k a b i low =
-      all-at (λ r. fault k rows r ≡ false) rows (smallest-none (fault k rows) rows 0 (place-none 7 6 rows (omega arith) none k a b) .1) i low
+no-fault : (k : ℕ) (rows : List Row) → place k rows ≡ 0 → (i : ℕ) → i < length rows → fault k rows (getD rows i noRow) ≡ false
+unfolding place
+no-fault k rows e = all-at (λ r. fault k rows r ≡ false) rows (smallest-none (fault k rows) rows 0 e .1)
 
 -- THE FACTS OF A ROW
 
@@ -147,67 +148,57 @@ differ-low n (w ∷ ws) h (suc i) (suc j) a b e = differ-low n ws (λ x. omega (
 differ : (n : ℕ) (ws : List Row) → ((x : ℕ) → times n x ws ≤ 1) → (i j : ℕ) → i < length ws → j < length ws → i ≢ j → key n (getD ws i noRow) ≢ key n (getD ws j noRow)
 differ n ws h i j a b apart e = le-case i j (λ k. differ-low n ws h i j (omega arith) b e) (λ k. differ-low n ws h j i k a (sym e))
 
--- THE ROWS, AND THE TEXT
+-- THE ROWS, AND THE SOURCE
 
-module _ (rows : List Row) (none : firstFault 7 6 rows .number ≡ 0) where
+module _ (rows : List Row) (clean : (n : ℕ) → has n rowChecks ≡ true → found n rows ≡ 0) where
   pub fine-rows : All Fine rows
-  unfolding fault
+  unfolding found fault
   fine-rows = all-from Fine rows (λ i low. fine-row (getD rows i noRow)
-      (no-fault rows none 6 (omega arith) (omega arith) i low)
-      (no-fault rows none 8 (omega arith) (omega arith) i low)
-      (no-fault rows none 9 (omega arith) (omega arith) i low)
-      (no-fault rows none 11 (omega arith) (omega arith) i low)
-      (no-fault rows none 12 (omega arith) (omega arith) i low))
+      (no-fault 6 rows (clean 6 refl) i low)
+      (no-fault 8 rows (clean 8 refl) i low)
+      (no-fault 9 rows (clean 9 refl) i low)
+      (no-fault 11 rows (clean 11 refl) i low)
+      (no-fault 12 rows (clean 12 refl) i low))
 
   pub ids-once : (x : ℕ) → times 7 x rows ≤ 1
-  unfolding fault
-  ids-once = once 7 rows (λ i low. no-fault rows none 7 (omega arith) (omega arith) i low)
+  unfolding found fault
+  ids-once = once 7 rows (no-fault 7 rows (clean 7 refl))
 
   pub priorities-once : (x : ℕ) → times 10 x rows ≤ 1
-  unfolding fault
-  priorities-once = once 10 rows (λ i low. no-fault rows none 10 (omega arith) (omega arith) i low)
+  unfolding found fault
+  priorities-once = once 10 rows (no-fault 10 rows (clean 10 refl))
 
-passed-checks : (rows : List Row) (f : Refusal) → checked rows f .refusal .number ≡ 0
-    → (f .number ≡ 0) × (hyper rows ≤ 100000) × (checked rows f ≡ record { refusal = nothing; table = tableOf rows })
-unfolding checked
-passed-checks rows f h = test (eqb (f .number) 0)
-    (λ e. test (leb (hyper rows) 100000)
-    (λ g. (eqb-true (f .number) 0 e, leb-true (hyper rows) 100000 g, rw (e, g)))
-    (λ g. absurd (omega (arith, rw (e, g) at h))))
-    (λ e. absurd (eqb-false (f .number) 0 e (rw e at h)))
+few-rows : (rows : List Row) → found 5 rows ≡ 0 → (1 ≤ length rows) × (length rows ≤ 16)
+unfolding found
+few-rows rows h = test (within 1 16 (length rows)) (λ e. within-is 1 16 (length rows) e) (λ e. absurd (omega (arith, rw e at h)))
 
-passed-rows : (rows : List Row) → rowsChecked rows .refusal .number ≡ 0
-    → Passed rows × (rowsChecked rows ≡ record { refusal = nothing; table = tableOf rows })
-unfolding rowsChecked
-passed-rows rows h = test (within 1 16 (length rows))
-    (λ e. let c = passed-checks rows (firstFault 7 6 rows) (rw e at h) in
-    let n = within-is 1 16 (length rows) e in (
-      record {
-        some = n .0;
-        few = n .1;
-        fine = fine-rows rows (c .0);
-        id-once = ids-once rows (c .0);
-        priority-once = priorities-once rows (c .0);
-        hyper-high = c .1;
-      },
-      rw e (c .2),
-    ))
-    (λ e. absurd (omega (arith, rw e at h)))
+hyper-low : (rows : List Row) → found 13 rows ≡ 0 → hyper rows ≤ 100000
+unfolding found
+hyper-low rows h = test (leb (hyper rows) 100000) (λ e. leb-true (hyper rows) 100000 e) (λ e. absurd (omega (arith, rw e at h)))
 
-pub passed : (s : List ℕ) → tableRead s .refusal .number ≡ 0 → PassedText s
-unfolding tableRead
-passed s h = test (leb (length s) 4096)
-    (λ e. test (eqb (badLine s) 0)
-    (λ f. let r = passed-rows (rowsOf s) (rw (e, f) at h) in
+pub passed-rows : (rows : List Row) → firstFault checks rows .number ≡ 0 → Passed rows
+passed-rows rows h =
+    let at = none-found checks rows refl h in
+    let clean : (n : ℕ) → has n rowChecks ≡ true → found n rows ≡ 0 = λ n m. at n (has-first n (5 ∷ rowChecks) (13 ∷ []) (after-five n m)) in
+    let few = few-rows rows (at 5 refl) in
     record {
-      short = leb-true (length s) 4096 e;
-      well-formed = eqb-true (badLine s) 0 f;
-      rows = r .0;
-      refusal = rw (e, f) (ap (λ (x : TableRead). x .refusal) (r .1));
-      table = rw (e, f) (ap (λ (x : TableRead). x .table) (r .1));
-    })
-    (λ f. absurd (omega (arith, rw (e, f) at h))))
-    (λ e. absurd (omega (arith, rw e at h)))
+      some = few .0;
+      few = few .1;
+      fine = fine-rows rows clean;
+      id-once = ids-once rows clean;
+      priority-once = priorities-once rows clean;
+      hyper-high = hyper-low rows (at 13 refl);
+    }
+  where
+    after-five : (n : ℕ) → has n rowChecks ≡ true → has n (5 ∷ rowChecks) ≡ true
+    after-five n m = test (eqb n 5) (λ e. rw e refl) (λ e. rw e m)
+
+-- no check of a source fails: neither the reader's own nor one of its rows
+pub passed : (s : Source) → refusalOf s .number ≡ 0 → (s .refusal .number ≡ 0) × Passed (s .rows)
+unfolding refusalOf
+passed s h = eq-case (s .refusal .number) 0
+    (λ e. (e, passed-rows (s .rows) (rw (eq-eqb (s .refusal .number) 0 e) at h)))
+    (λ e. absurd (e (rw (ne-eqb (s .refusal .number) 0 e) at h)))
 
 -- the canonical form passes too
 pub passed-canonical : (rows : List Row) → Passed rows → Passed (canonical rows)

@@ -1,21 +1,21 @@
--- The order of the rows changes nothing: rows put in another order give the same refusal with the same place, or the same table.
--- `texts-order` is the law of texts. For the promise on row order; no code uses it.
+-- The order of the rows changes nothing: of two sources with no refusal of their own, whose rows are permutations of each other, the
+-- refusals are equal with their places, or the tasks are (`perm-alike`). For the promise on row order; no code uses it.
 use mathlib.Core.Path.{_≡_, refl, ap, _∙_, fun-ext}
 use mathlib.Core.Logic.{_≢_}
 use mathlib.Core.Bool.{Bool, true, false, cond}
-use mathlib.Core.List.{List}
-use Prim.Native.Nat.{ℕ, zero, suc, _+_, _≤_, _<_}
+use mathlib.Core.List.{List, [], _∷_}
+use Prim.Native.Nat.{ℕ, _+_, _<_, _≤_}
 use native.Mathlib.Omega.{arith}
 use lib.Dec.{eqb, ltb}
-use lib.ListN.{length}
-use borrow.Author.Tests.{ne-eqb, le-leb, lt-ltb, le-ltb}
+use borrow.Author.Tests.{ne-eqb, lt-ltb, le-ltb}
 use Rattle.rules.specs.declared.Row.{Row}
-use Rattle.rules.specs.Text.{badLine, rowsOf}
-use Rattle.rules.specs.Checks.{key, fault, better, smallest, place, firstFault, checked, rowsChecked, tableRead}
+use Rattle.rules.specs.Sources.{Source}
+use Rattle.rules.specs.Checks.{key, fault, better, smallest, place, found, checks, firstFault, refusalOf}
 use Rattle.basics.specs.Cases.{eq-case, le-case}
-use Rattle.reordering.specs.Permutations.{Perm, done, keep, swap, then, length-perm, times-perm, omax-perm, hyper-perm}
+use Rattle.reordering.specs.Permutations.{Perm, done, keep, swap, then, length-perm, times-perm, hyper-perm}
 use Rattle.reordering.specs.Canonical.{canonical-perm}
-use Rattle.reordering.specs.Passed.{ids-once}
+use Rattle.reordering.specs.Passed.{passed}
+use Rattle.reordering.specs.Alike.{Alike}
 
 fault-perm : (n : ℕ) {a b : List Row} → Perm a b → (r : Row) → fault n a r ≡ fault n b r
 unfolding fault
@@ -71,19 +71,19 @@ place-perm : (n : ℕ) {a b : List Row} → Perm a b → place n a ≡ place n b
 unfolding place
 place-perm n {a} {b} p = smallest-perm (fault n a) p 0 ∙ ap (λ (f : Row → Bool). smallest f 0 b) (fun-ext (fault-perm n p))
 
-faults-perm : (d n : ℕ) {a b : List Row} → Perm a b → firstFault d n a ≡ firstFault d n b
+found-perm : (n : ℕ) {a b : List Row} → Perm a b → found n a ≡ found n b
+unfolding found
+found-perm n p = rw (length-perm p, hyper-perm p, place-perm n p)
+
+faults-perm : (ns : List ℕ) {a b : List Row} → Perm a b → firstFault ns a ≡ firstFault ns b
 unfolding firstFault
-faults-perm zero n p = refl
-faults-perm (suc d) n p = rw (place-perm n p, faults-perm d (suc n) p)
+faults-perm [] p = refl
+faults-perm (n ∷ ns) p = rw (found-perm n p, faults-perm ns p)
 
--- the table of rows with a fault is not asked for, and the others have no id twice
-pub rows-order : {a b : List Row} → Perm a b → rowsChecked a ≡ rowsChecked b
-unfolding rowsChecked checked
-rows-order {a} {b} p = eq-case (firstFault 7 6 a .number) 0
-    (λ z. rw (faults-perm 7 6 p, hyper-perm p, omax-perm p, canonical-perm p (ids-once a z), length-perm p))
-    (λ z. let n : eqb (firstFault 7 6 b .number) 0 ≡ false = rw (← (faults-perm 7 6 p)) (ne-eqb (firstFault 7 6 a .number) 0 z) in
-    rw (faults-perm 7 6 p, n, length-perm p))
-
-pub texts-order : (s t : List ℕ) → length s ≤ 4096 → length t ≤ 4096 → badLine s ≡ 0 → badLine t ≡ 0 → Perm (rowsOf s) (rowsOf t) → tableRead s ≡ tableRead t
-unfolding tableRead
-texts-order s t a b e f p = rw (le-leb (length s) 4096 a, le-leb (length t) 4096 b, e, f) (rows-order p)
+-- the tasks of a source that is refused are not asked for, and the others have no id twice
+pub perm-alike : (s t : Source) → s .refusal .number ≡ 0 → t .refusal .number ≡ 0 → Perm (s .rows) (t .rows) → Alike s t
+unfolding refusalOf
+perm-alike s t own its p = record {
+  refusal = rw (own, its) (faults-perm checks p);
+  tasks = λ fine. canonical-perm p (passed s fine .1 .id-once);
+}

@@ -3,7 +3,10 @@ use mathlib.Core.Path.{_≡_, sym, ap, _∙_}
 use mathlib.Core.List.{List}
 use Prim.Native.Nat.{ℕ}
 use lib.ListN.{length}
+use Rattle.rules.specs.Table.{omax, hyper}
+use Rattle.rules.specs.Sources.{textSource}
 use Rattle.rules.specs.Checks.{verdictRefusal}
+use Rattle.rules.specs.Verdicts.{tasksOf, systemOf}
 use Rattle.basics.specs.Cases.{le-case}
 use Rattle.theory.specs.Replies.{verdict-one}
 use Rattle.report.specs.Lines.{allowance, lineOf}
@@ -11,7 +14,8 @@ use Rattle.report.specs.Reports.{Line, FourLines, Puts, Reports}
 
 line-once : {p : ℕ} {text x z : List ℕ} → Line p text x → Line p text z → x ≡ z
 line-once {p} {text} a b =
-    a .bytes ∙ ap (lineOf p) (verdict-one (verdictRefusal p text) p allowance text (a .reply) (b .reply) (a .right) (b .right)) ∙ sym (b .bytes)
+    let s = textSource text in
+    a .bytes ∙ ap (lineOf p) (verdict-one (verdictRefusal p s) (systemOf p s) (omax (tasksOf s)) (hyper (tasksOf s)) allowance (a .reply) (b .reply) (a .right) (b .right)) ∙ sym (b .bytes)
 
 four-once : {text x z : List ℕ} → FourLines text x → FourLines text z → x ≡ z
 four-once a b =

@@ -4,13 +4,14 @@ use mathlib.Core.List.{List, _++_}
 use Prim.Native.Nat.{ℕ, _+_, _≤_, _<_}
 use lib.ListN.{length, take, drop}
 use Rattle.rules.specs.declared.Verdict.{Verdict}
+use Rattle.rules.specs.Sources.{textSource}
 use Rattle.rules.specs.Verdicts.{VerdictIs}
 use Rattle.report.specs.Lines.{allowance, lineOf}
 
 -- a line of the text under policy p
 pub record Line (p : ℕ) (text line : List ℕ) : Type 0 where
   pub reply : Verdict
-  pub right : VerdictIs p allowance text reply
+  pub right : VerdictIs p allowance (textSource text) reply
   pub bytes : line ≡ lineOf p reply
 
 -- "It .. prints four lines, .. policies 1 to 4"

@@ -1,6 +1,7 @@
 pub mod Search
 pub mod Text
 pub mod Table
+pub mod Sources
 pub mod Checks
 pub mod Policies
 pub mod Slots

@@ -1,78 +1,116 @@
--- Checks 3 to 13 in their order, over the rows that the reader kept: they are the checks of all rows (`kept-checked`). For
--- check_rows and read_table.
-use mathlib.Core.Path.{_≡_, sym, ap, _∙_}
+-- The checks in their order, over the rows that the code keeps of a source: policy and buffer, the reader's own refusal, then 5, the row
+-- checks and 13. Each law is one end of `check`, or of `checked`, which goes over the rows.
+use mathlib.Core.Path.{_≡_, refl, sym, ap, _∙_}
 use mathlib.Core.Logic.{_≢_}
-use mathlib.Core.List.{List, _++_}
+use mathlib.Core.Bool.{Bool, true, false}
+use mathlib.Core.List.{List, [], _∷_, _++_}
 use Prim.Native.Nat.{ℕ, _≤_, _<_}
 use native.Mathlib.Omega.{arith}
-use lib.ListN.{length, take, replicate}
+use lib.Dec.{eqb}
+use lib.ListN.{length, take, take-append-drop}
 use borrow.Author.Tests.{eq-eqb, ne-eqb, le-leb, lt-leb}
 use Rattle.rules.specs.declared.Row.{Row}
 use Rattle.rules.specs.declared.Refusal.{Refusal}
-use Rattle.rules.specs.declared.TableRead.{TableRead}
-use Rattle.rules.specs.Text.{badLine, rowsOf}
-use Rattle.rules.specs.Table.{noRow, canonical, omax, hyper}
-use Rattle.rules.specs.Checks.{firstFault, refused, checked, rowsChecked, tableRead}
-use Rattle.basics.specs.Cases.{le-case}
-use Rattle.reordering.specs.Canonical.{padded-rows, canonical-length}
-use Rattle.csv.specs.declared.Kept.{Kept}
-use Rattle.csv.specs.declared.Reading.{Reading}
-use Rattle.csv.specs.Reader.{keptOf, readingOf}
-use Rattle.table.specs.Kept.{Keeps, acceptedOf, keptChecked}
+use Rattle.rules.specs.declared.RowsRead.{RowsRead}
+use Rattle.rules.specs.Sources.{rowsIn, sourceOf}
+use Rattle.rules.specs.Checks.{within, found, rowChecks, checks, firstFault, refusalOf, policyWrong, refusalFor}
+use Rattle.basics.specs.Cases.{test, eq-case}
+use Rattle.reordering.specs.Passed.{has, none-found}
+use Rattle.reordering.specs.Alike.{rows-count, rows-first}
+use Rattle.table.specs.Tables.{ascendingIn, acceptedOf, refused, faultOf, unlessRefused, rowsRead, tableRead}
+use Rattle.table.proofs.OnePass.{Surveyed}
 
--- rows already in ascending id are kept as they are
-pub kept-ascending : (t : Kept) → Keeps t → t .count ≤ 16 → canonical (take (t .count) (t .rows)) ≡ take (t .count) (t .rows)
-    → t ≡ keptOf (canonical (take (t .count) (t .rows)))
-kept-ascending t k few e =
-    let whole : take (t .count) (t .rows) ≡ k .0 = rw (k .1) (padded-rows (k .0) (omega (arith, ap (λ (x : Kept). x .count) (k .1)))) in
-    k .1 ∙ ap keptOf (sym (e ∙ whole))
+-- TWO LISTS OF CHECKS, one after the other: the first that fails is of the first list, or of the second where none of the first fails
 
-module _ (t : Kept) (lo : 1 ≤ t .count) (hi : t .count ≤ 16) (f : Refusal) (e : f ≡ firstFault 7 6 (take (t .count) (t .rows))) where
-  open-checks : keptChecked t ≡ checked (take (t .count) (t .rows)) f
-  open-checks = rw (le-leb 1 (t .count) lo, le-leb (t .count) 16 hi, e)
+checks-then : (ns ms : List ℕ) (rows : List Row) (f : Refusal) → firstFault ns rows ≡ f → f .number ≢ 0 → firstFault (ns ++ ms) rows ≡ f
+unfolding firstFault
+checks-then [] ms rows f e some = absurd (some (ap (λ (g : Refusal). g .number) (sym e)))
+checks-then (n ∷ ns) ms rows f e some = eq-case (found n rows) 0
+    (λ z. rw (eq-eqb (found n rows) 0 z) (checks-then ns ms rows f (rw (eq-eqb (found n rows) 0 z) at e) some))
+    (λ z. rw (ne-eqb (found n rows) 0 z) (rw (ne-eqb (found n rows) 0 z) at e))
 
-  pub checks-fault : f .number ≢ 0 → refused (f .number) (f .place) ≡ keptChecked t
-  unfolding checked
-  checks-fault n = sym (open-checks ∙ rw (ne-eqb (f .number) 0 n))
+checks-after : (ns ms : List ℕ) (rows : List Row) → ((n : ℕ) → has n ns ≡ true → found n rows ≡ 0) → firstFault (ns ++ ms) rows ≡ firstFault ms rows
+unfolding firstFault
+checks-after [] ms rows h = refl
+checks-after (n ∷ ns) ms rows h = rw (h n (rw (eq-eqb n n refl) refl))
+    (checks-after ns ms rows (λ k m. h k (test (eqb k n) (λ e. rw e refl) (λ e. rw e m))))
 
-  module _ (z : f .number ≡ 0) (h : ℕ) (eh : h ≡ hyper (take (t .count) (t .rows))) where
-    pub checks-over : 100000 < h → refused 13 0 ≡ keptChecked t
-    unfolding checked
-    checks-over g = sym (open-checks ∙ rw (eq-eqb (f .number) 0 z, ← eh, lt-leb h 100000 g))
+-- A REFUSAL AND NO TABLE
 
-    pub checks-fine : h ≤ 100000 → (m : ℕ) → m ≡ omax (take (t .count) (t .rows)) → (s : Kept) → s ≡ keptOf (canonical (take (t .count) (t .rows))) → acceptedOf s m h ≡ keptChecked t
-    unfolding checked
-    checks-fine g m em s es =
-        let n : s .count ≡ length (take (t .count) (t .rows)) = ap (λ (k : Kept). k .count) es ∙ canonical-length (take (t .count) (t .rows)) in
-        let rs : s .rows ≡ take 16 (canonical (take (t .count) (t .rows)) ++ replicate 16 noRow) = ap (λ (k : Kept). k .rows) es in
-        sym (open-checks ∙ rw (eq-eqb (f .number) 0 z, ← eh, le-leb h 100000 g, ← n, ← em, ← rs))
+refused-table : (f : Refusal) (t : RowsRead) → f .number ≢ 0 → refused (f .number) (f .place) ≡ unlessRefused f t
+refused-table f t some = rw (ne-eqb (f .number) 0 some)
 
--- rows kept are the rows, up to sixteen
-kept-checked : (rows : List Row) → keptChecked (keptOf rows) ≡ rowsChecked rows
-unfolding rowsChecked
-kept-checked rows = le-case 1 (length rows)
-    (λ a. le-case (length rows) 16
-    (λ b. rw (le-leb 1 (length rows) a, le-leb (length rows) 16 b, padded-rows rows b))
-    (λ b. rw (le-leb 1 (length rows) a, lt-leb (length rows) 16 b)))
-    (λ a. rw (lt-leb 1 (length rows) a))
+-- THE ROWS: the row checks, and 13 after them
 
-module _ (s : List ℕ) (short : length s ≤ 4096) (g : Reading) (e : g ≡ readingOf s) where
-  pub read-bad : g .line ≢ 0 → refused 4 (g .line) ≡ tableRead s
+module _ (t : RowsRead) where
+  pub fault-refused : firstFault rowChecks (take (t .count) (t .rows)) .number ≢ 0 → faultOf t ≡ rowsRead t
+  unfolding rowsRead
+  fault-refused some = refused-table (firstFault rowChecks (take (t .count) (t .rows))) t some
+      ∙ ap (λ (f : Refusal). unlessRefused f t) (sym (checks-then rowChecks (13 ∷ []) (take (t .count) (t .rows)) _ refl some))
+
+  module _ {ascending : Bool} {m h : ℕ} (so : Surveyed (take (t .count) (t .rows)) ascending m h) where
+    after-rows : firstFault (rowChecks ++ (13 ∷ [])) (take (t .count) (t .rows)) ≡ firstFault (13 ∷ []) (take (t .count) (t .rows))
+    after-rows = checks-after rowChecks (13 ∷ []) (take (t .count) (t .rows))
+        (none-found rowChecks (take (t .count) (t .rows)) refl (ap (λ (f : Refusal). f .number) (so .faultless)))
+
+    pub hyper-refused : 100000 < h → refused 13 0 ≡ rowsRead t
+    unfolding rowsRead firstFault found
+    hyper-refused over = rw (after-rows, ← so .periods, lt-leb h 100000 over)
+
+    pub accepted : h ≤ 100000 → (s : RowsRead) → s .rows ≡ ascendingIn t → s .count ≡ t .count → acceptedOf s m h ≡ rowsRead t
+    unfolding rowsRead firstFault found
+    accepted fits s rows count = rw (after-rows, ← so .periods, le-leb h 100000 fits, rows, count, so .offsets)
+
+    -- rows already in ascending id stay where they are
+    pub ascending-stays : ascending ≡ true → t .rows ≡ ascendingIn t
+    ascending-stays e = rw (so .order e) (sym (take-append-drop (t .count) (t .rows)))
+
+-- POLICY AND BUFFER
+
+module _ (p : ℕ) (unfit : Bool) (t : RowsRead) where
+  refused-read : (f : Refusal) → refusalFor p unfit (sourceOf t) ≡ f → f .number ≢ 0 → refused (f .number) (f .place) ≡ tableRead p unfit t
   unfolding tableRead
-  read-bad n =
-      let l : g .line ≡ badLine s = ap (λ (r : Reading). r .line) e in
-      rw (le-leb (length s) 4096 short, ← l, ne-eqb (g .line) 0 n)
+  refused-read f e some = refused-table f t some ∙ ap (λ (g : Refusal). unlessRefused g t) (sym e)
 
-  module _ (z : g .line ≡ 0) where
-    good : badLine s ≡ 0
-    good = sym (ap (λ (r : Reading). r .line) e) ∙ z
+  pub policy-refused : policyWrong p ≡ true → refused 1 0 ≡ tableRead p unfit t
+  policy-refused e = refused-read (record { number = 1; place = 0 }) (rw e refl) (λ z. omega arith)
 
-    kept-rows : g .kept ≡ keptOf (rowsOf s)
-    kept-rows = ap (λ (r : Reading). r .kept) e ∙ rw good
+  pub buffer-refused : policyWrong p ≡ false → unfit ≡ true → refused 2 0 ≡ tableRead p unfit t
+  buffer-refused e f = refused-read (record { number = 2; place = 0 }) (rw (e, f) refl) (λ z. omega arith)
 
-    pub read-keeps : Keeps (g .kept)
-    read-keeps = (rowsOf s, kept-rows)
+-- THE SOURCE, where policy and buffer are right
+pub record Admitted (p : ℕ) (unfit : Bool) : Type 0 where
+  pub policy : policyWrong p ≡ false
+  pub buffer : unfit ≡ false
 
-    pub read-good : (r : TableRead) → r ≡ keptChecked (g .kept) → r ≡ tableRead s
-    unfolding tableRead
-    read-good r f = f ∙ rw (le-leb (length s) 4096 short, good, kept-rows) (kept-checked (rowsOf s))
+module _ {p : ℕ} {unfit : Bool} (a : Admitted p unfit) (t : RowsRead) where
+  source-refusal : refusalFor p unfit (sourceOf t) ≡ refusalOf (sourceOf t)
+  source-refusal = rw (a .policy, a .buffer) refl
+
+  pub own-refused : t .refusal .number ≢ 0 → refused (t .refusal .number) (t .refusal .place) ≡ tableRead p unfit t
+  unfolding refusalOf
+  own-refused some = refused-read p unfit t (t .refusal) (source-refusal ∙ rw (ne-eqb (t .refusal .number) 0 some)) some
+
+  rows-refusal : t .refusal .number ≡ 0 → refusalFor p unfit (sourceOf t) ≡ firstFault checks (rowsIn t)
+  unfolding refusalOf
+  rows-refusal own = source-refusal ∙ rw own
+
+  pub count-refused : t .refusal .number ≡ 0 → within 1 16 (t .count) ≡ false → refused 5 0 ≡ tableRead p unfit t
+  unfolding firstFault found
+  count-refused own e = refused-read p unfit t (record { number = 5; place = 0 }) (rows-refusal own ∙ rw (rows-count t, e)) (λ z. omega arith)
+
+enough-rows : (t : RowsRead) → 1 ≤ t .count → t .count ≤ 16 → found 5 (rowsIn t) ≡ 0
+unfolding found
+enough-rows t low high = rw (rows-count t, le-leb 1 (t .count) low, le-leb (t .count) 16 high)
+
+-- ITS ROWS, 1 to 16 of sixteen that are held, where the reader refused nothing
+pub rows-read : {p : ℕ} {unfit : Bool} → Admitted p unfit → (t : RowsRead) → t .refusal .number ≡ 0 → 1 ≤ t .count → t .count ≤ 16 → length (t .rows) ≡ 16
+    → rowsRead t ≡ tableRead p unfit t
+unfolding rowsRead tableRead firstFault
+rows-read a t own low high full = ap (λ (f : Refusal). unlessRefused f t) (sym (rows-refusal a t own ∙ rw enough (ap (firstFault (rowChecks ++ (13 ∷ []))) rows-are)))
+  where
+    rows-are : rowsIn t ≡ take (t .count) (t .rows)
+    rows-are = rows-first t (omega arith)
+
+    enough : found 5 (rowsIn t) ≡ 0
+    enough = enough-rows t low high

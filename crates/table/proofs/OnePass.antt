@@ -1,4 +1,4 @@
--- One pass over the rows finds what the checks 6 to 12 find row by row. `Surveying` is the loop of look_over: the rows seen pass the
+-- One pass over the rows finds what the row checks find one by one. `Surveying` is the loop of checked: the rows seen pass the
 -- checks of a single row, each key seen is marked and was met once, and order, offsets and periods are those of the rows seen. A
 -- check that fails in the pass is a fault of the rows (`faulty-row`, `faulty-key`); where the pass ends, there is none
 -- (`surveying-done`).
@@ -15,13 +15,13 @@ use lib.Seq.{take-all, take-suc, drop-cons, split-at, getD-set-same, getD-set-ot
 use borrow.Author.Tests.{eq-eqb, ne-eqb, eqb-true, le-leb, lt-leb, le-ltb, ltb-true, not-false}
 use Rattle.rules.specs.declared.Row.{Row}
 use Rattle.rules.specs.Table.{noRow, insert, sortInto, canonical, omax, hyper}
-use Rattle.rules.specs.Checks.{idWrong, timeWrong, priorityWrong, orderWrong, resumeWrong, key, times, fault, smallest, place, nothing, firstFault}
+use Rattle.rules.specs.Sources.{nothing}
+use Rattle.rules.specs.Checks.{idWrong, timeWrong, priorityWrong, orderWrong, resumeWrong, key, times, fault, smallest, place, found, rowChecks, firstFault}
 use Rattle.basics.specs.Cases.{test, clash, eq-case, both-true}
 use Rattle.reordering.specs.All.{All, all-at}
-use Rattle.reordering.specs.Passed.{Fine, fine-row, fine-rows, ids-once, priorities-once}
-use Rattle.table.specs.declared.Survey.{Survey}
-use Rattle.table.specs.Kept.{rowWrong, Surveyed, commonOf}
-use Rattle.table.proofs.Hyper.{joint, joint-start, joint-next, joint-end}
+use Rattle.reordering.specs.Passed.{Fine, none-found, fine-row, fine-rows, ids-once, priorities-once}
+use Rattle.table.specs.Tables.{rowWrong, commonOf}
+use Rattle.table.proofs.Multiples.{joint, joint-start, joint-next, joint-end}
 use Rattle.table.proofs.Sort.{sort-snoc}
 
 -- THE CHECKS OF A ROW
@@ -85,8 +85,8 @@ module _ (rows : List Row) (fine : All Fine rows) (once-id : (x : ℕ) → times
   unfolding place
   none-at n h = smallest-zero (fault n rows) Fine h rows fine
 
-  no-fault : firstFault 7 6 rows ≡ nothing
-  unfolding fault firstFault
+  no-fault : firstFault rowChecks rows ≡ nothing
+  unfolding fault found firstFault
   no-fault =
       rw (
         none-at 6 id-right,
@@ -192,12 +192,13 @@ surveying-start rows =
     }
 
 -- the row in hand is w, at place i
-module _ (rows : List Row) (ids priorities : List ℕ) (ascending : Bool) (top m h i : ℕ) (so : Surveying rows ids priorities ascending top m h i) (low : i < length rows) (w : Row) (here : w ≡ getD rows i noRow) where
+module _ {rows : List Row} {ids priorities : List ℕ} {ascending : Bool} {top m h i : ℕ} (so : Surveying rows ids priorities ascending top m h i) (low : i < length rows)
+    (w : Row) (here : w ≡ getD rows i noRow) where
   whole-is : rows ≡ take i rows ++ w ∷ drop (suc i) rows
   whole-is = rw here (split-at rows i noRow low)
 
-  pub faulty-row : rowWrong w ≡ true → firstFault 7 6 rows .number ≢ 0
-  faulty-row e z = clash e (row-right w (rw here (all-at Fine rows (fine-rows rows z) i low)))
+  pub faulty-row : rowWrong w ≡ true → firstFault rowChecks rows .number ≢ 0
+  faulty-row e z = clash e (row-right w (rw here (all-at Fine rows (fine-rows rows (none-found rowChecks rows refl z)) i low)))
 
   module _ (fine : Fine w) where
     id-low : w .id < 256
@@ -206,12 +207,12 @@ module _ (rows : List Row) (ids priorities : List ℕ) (ascending : Bool) (top m
     priority-low : w .priority < 256
     priority-low = omega (arith, fine .priority-high)
 
-    pub faulty-key : not (eqb (getD ids (w .id) 0) 0 && eqb (getD priorities (w .priority) 0) 0) ≡ true → firstFault 7 6 rows .number ≢ 0
+    pub faulty-key : not (eqb (getD ids (w .id) 0) 0 && eqb (getD priorities (w .priority) 0) 0) ≡ true → firstFault rowChecks rows .number ≢ 0
     faulty-key e z = eq-case (getD ids (w .id) 0) 0
         (λ a. eq-case (getD priorities (w .priority) 0) 0
         (λ b. clash e (rw (a, b)))
-        (λ b. twice 10 (w .priority) (met-twice 10 priorities (take i rows) (so .priority-marks) w priority-low b (drop (suc i) rows)) (priorities-once rows z (w .priority))))
-        (λ a. twice 7 (w .id) (met-twice 7 ids (take i rows) (so .id-marks) w id-low a (drop (suc i) rows)) (ids-once rows z (w .id)))
+        (λ b. twice 10 (w .priority) (met-twice 10 priorities (take i rows) (so .priority-marks) w priority-low b (drop (suc i) rows)) (priorities-once rows (none-found rowChecks rows refl z) (w .priority))))
+        (λ a. twice 7 (w .id) (met-twice 7 ids (take i rows) (so .id-marks) w id-low a (drop (suc i) rows)) (ids-once rows (none-found rowChecks rows refl z) (w .id)))
       where
         twice : (n x : ℕ) → 2 ≤ times n x (take i rows ++ w ∷ drop (suc i) rows) → times n x rows ≤ 1 → ⊥
         twice n x g k = omega (arith, g, k, ap (times n x) whole-is)
@@ -235,26 +236,22 @@ module _ (rows : List Row) (ids priorities : List ℕ) (ascending : Bool) (top m
           periods = (joined .0, joined .1, so .periods .2 ∙ ap (joint h) back ∙ joined .2);
         }
 
-module _ (rows : List Row) (ids priorities : List ℕ) (ascending : Bool) (top m h i : ℕ) (so : Surveying rows ids priorities ascending top m h i) (end : length rows ≤ i) where
-  pub surveying-done : Surveyed rows (record { fine = true; ascending = ascending; omax = m; hyper = h })
+-- what the pass has found where no row check fails
+pub record Surveyed (rows : List Row) (ascending : Bool) (m h : ℕ) : Type 0 where
+  pub faultless : firstFault rowChecks rows ≡ nothing
+  pub order : ascending ≡ true → canonical rows ≡ rows
+  pub offsets : m ≡ omax rows
+  pub periods : h ≡ hyper rows
+
+module _ {rows : List Row} {ids priorities : List ℕ} {ascending : Bool} {top m h i : ℕ} (so : Surveying rows ids priorities ascending top m h i) (end : length rows ≤ i) where
+  pub surveying-done : Surveyed rows ascending m h
   unfolding omax
   surveying-done =
       let all : take i rows ≡ rows = take-all i rows end in
       let none : drop i rows ≡ [] = drop-of-length-le rows end in
       record {
-        faulty = λ e. clash refl e;
-        faultless = λ e. no-fault rows (rw all at (so .fine)) (λ x. omega (arith, so .id-marks .once x, ap (times 7 x) all)) (λ x. omega (arith, so .priority-marks .once x, ap (times 10 x) all));
-        order = λ e a. rw all at (so .order a .0);
-        offsets = λ e. omega (arith, so .offsets, ap omax none);
-        periods = λ e. joint-end h (so .periods .0) (so .periods .1) ∙ sym (so .periods .2 ∙ ap (joint h) none);
+        faultless = no-fault rows (rw all at (so .fine)) (λ x. omega (arith, so .id-marks .once x, ap (times 7 x) all)) (λ x. omega (arith, so .priority-marks .once x, ap (times 10 x) all));
+        order = λ a. rw all at (so .order a .0);
+        offsets = omega (arith, so .offsets, ap omax none);
+        periods = joint-end h (so .periods .0) (so .periods .1) ∙ sym (so .periods .2 ∙ ap (joint h) none);
       }
-
-pub surveyed-faulty : (rows : List Row) (s : Survey) → s .fine ≡ false → firstFault 7 6 rows .number ≢ 0 → Surveyed rows s
-surveyed-faulty rows s e n =
-    record {
-      faulty = λ g. n;
-      faultless = λ g. clash g e;
-      order = λ g. clash g e;
-      offsets = λ g. clash g e;
-      periods = λ g. clash g e;
-    }

@@ -22,5 +22,6 @@ pub mod Counters
 pub mod Jump
 pub mod Completions
 pub mod Lists
-pub mod Texts
+pub mod Sources
 pub mod Reordered
+pub mod Texts

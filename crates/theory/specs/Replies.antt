@@ -11,10 +11,12 @@ use lib.Seq.{ext-getD, getD-drop}
 use Rattle.rules.specs.declared.Refusal.{Refusal}
 use Rattle.rules.specs.declared.Verdict.{Verdict}
 use Rattle.rules.specs.declared.Verdict.the-variants.{Accepted, Missed, Undecided, Refused}
+use Rattle.rules.specs.Table.{omax, hyper}
+use Rattle.rules.specs.Sources.{Source}
 use Rattle.rules.specs.Policies.{System}
 use Rattle.rules.specs.Slots.{due, onTime, run, stated}
 use Rattle.rules.specs.Decided.{missedAt, NeverMissed, SlotsNeeded}
-use Rattle.rules.specs.Verdicts.{missedId, plain, Decides, Replies, Hold, Leaves, ResponsesAre}
+use Rattle.rules.specs.Verdicts.{tasksOf, systemOf, missedId, plain, Decides, Replies, Hold, Leaves, ResponsesAre}
 use Rattle.basics.specs.Cases.{test, le-case, eq-case}
 use Rattle.theory.specs.Order.{First, pick-first}
 use Rattle.theory.specs.Runs.{unreleased}
@@ -87,9 +89,9 @@ missed-smallest y ascending t some i h late = go (missedAt y (stated y) t) some 
     go (suc j) n f = ascending j i (f .2 i h late .1 (omega arith)) h
 
 -- VERDICT
-pub verdict-one : (f : Refusal) (p a : ℕ) (text : List ℕ) (r s : Verdict) → Replies f p a text r → Replies f p a text s → r ≡ s
-verdict-one f p a text r s u v = eq-case (f .number) 0
-    (λ e. decides-one _ _ _ a r s (u .decided e) (v .decided e))
+pub verdict-one : (f : Refusal) (y : System) (o h a : ℕ) (r s : Verdict) → Replies f (Decides y o h a) r → Replies f (Decides y o h a) s → r ≡ s
+verdict-one f y o h a r s u v = eq-case (f .number) 0
+    (λ e. decides-one y o h a r s (u .decided e) (v .decided e))
     (λ e. u .refused e ∙ sym (v .refused e))
 
 -- RESPONSES
@@ -105,8 +107,8 @@ leaves-one y (Missed t i) before x z a b = a ∙ sym b
 leaves-one y Undecided before x z a b = a ∙ sym b
 leaves-one y (Refused n p) before x z a b = a ∙ sym b
 
-pub responses-one : (p a : ℕ) (text before x z : List ℕ) (r s : Verdict) → ResponsesAre p a text before x r → ResponsesAre p a text before z s
-    → (r ≡ s) × (x ≡ z)
-responses-one p a text before x z r s u v =
-    let e = verdict-one _ p a text r s (u .reply) (v .reply) in
-    (e, leaves-one _ s before x z (rw e at (u .buffer)) (v .buffer))
+pub responses-one : (p a : ℕ) (s : Source) (before x z : List ℕ) (r q : Verdict) → ResponsesAre p a s before x r → ResponsesAre p a s before z q
+    → (r ≡ q) × (x ≡ z)
+responses-one p a s before x z r q u v =
+    let e = verdict-one _ (systemOf p s) (omax (tasksOf s)) (hyper (tasksOf s)) a r q (u .reply) (v .reply) in
+    (e, leaves-one _ q before x z (rw e at (u .buffer)) (v .buffer))

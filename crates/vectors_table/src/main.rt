@@ -1,4 +1,4 @@
-// Runs the table's reader over texts whose replies document 01 settles. Each line of standard input is a reason, a bar and a
+// Runs the reader and the checks over texts whose replies document 01 settles. Each line of standard input is a reason, a bar and a
 // text; for each it writes the reason, and number and place of the refusal, or 0 0, the count of rows, Omax, H and the ids in
 // order. The crate cases says how a text is written. No crate uses it.
 use cases::put;
@@ -29,7 +29,7 @@ fn put_ids(t: Table) {
 
 // The reply to a text.
 fn reply(text: &[u8]) {
-    let r = table::read_table(text);
+    let r = table::check(1, false, csv::read_rows(text));
     let f = r.refusal;
     put(f.number as u64);
     put(f.place);

@@ -1,8 +1,9 @@
 -- `otter_as_run` meets its contract: the checker's reply is small, so that it has a number.
 use borrow.Author.Needs.{needs}
+use Rattle.rules.specs.Sources.{textSource}
 use Rattle.rules.specs.AsRun.{listed}
 use Rattle.rules.specs.Verdicts.{systemOf}
-use Rattle.boundary.proofs.Bounds.{writes-small}
+use Rattle.boundary.proofs.Bounds.{text-small, writes-small}
 use Rattle.boundary.proofs.otter_as_run.Statement.{statement}
 use Rattle.boundary.proofs.otter_as_run.Tie as tie
 
@@ -10,7 +11,10 @@ as-run-requires : tie.Need-as-run-requires
 as-run-requires c κs = search needs
 
 schedule-requires : tie.Need-schedule-requires
-schedule-requires c κs = let a = c .before .before .before .before .before .before .before .before .args in writes-small (a .policy) (a .text .now) (listed (systemOf (a .policy) (a .text .now)) (a .requests .now) (a .loadings .now)) (a .slots .now) _ (c .before .before .as-run .result) (c .before .before .as-run .ensures)
+schedule-requires c κs =
+    let a = c .before .before .before .before .before .before .before .before .args in
+    let s = textSource (a .text .now) in
+    writes-small s (text-small (a .text .now)) (a .policy) (listed (systemOf (a .policy) s) (a .requests .now) (a .loadings .now)) (a .slots .now) _ (c .before .before .as-run .result) (c .before .before .as-run .ensures)
 
 same-length : tie.Need-same-length
 same-length c = search needs

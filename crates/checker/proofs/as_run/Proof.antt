@@ -1,76 +1,26 @@
--- `as_run`: a refusal, which writes nothing; else the run over the slots there is room for and, after a miss, the marks.
-use mathlib.Core.Path.{refl}
-use mathlib.Core.Logic.{inl}
-use native.Mathlib.Omega.{arith}
+-- `as_run` is that of the source which the text is.
+use Rattle.rules.specs.Sources.{textSource, readOf, sourceOf}
+use Rattle.reordering.specs.Alike.{read-alike}
+use Rattle.theory.specs.Reordered.{as-run-to}
 use borrow.Author.Needs.{needs}
-use Rattle.checker.proofs.InHand.{refusal-in, fit-in, sound-in}
-use Rattle.checker.proofs.Written.{slots-room, writes-refused, as-run-filled, as-run-missed}
+use borrow.Author.Needs.{needs}
 use Rattle.checker.proofs.as_run.Statement.{statement}
 use Rattle.checker.proofs.as_run.Tie as tie
 
-slots-wrong-requires : tie.Need-slots-wrong-requires
-slots-wrong-requires c κs = search needs
+read-rows-requires : tie.Need-read-rows-requires
+read-rows-requires c κs = search needs
 
-admit-requires : tie.Need-admit-requires
-admit-requires c κs = search needs
-
-returns : tie.Need-returns
-returns c =
-    let a = c .before .before .before in
-    let e = rw (a .before .slots-wrong .ensures) at (a .admit .ensures) in
-    writes-refused (refusal-in _ _ _ e) (c .if1 .taken)
-
-run-requires : tie.Need-run-requires
-run-requires c κs =
-    let fine = c .before .before in
-    let a = fine .before .before .before in
-    let e = rw (a .before .slots-wrong .ensures) at (a .admit .ensures) in
-    (sound-in _ _ _ e (fine .if1 .left), (inl refl, slots-room _ (fit-in _ _ _ e (fine .if1 .left))))
-
-fill-requires : tie.Need-fill-requires
-fill-requires c κs = search needs
-
-id-of-requires : tie.Need-id-of-requires
-id-of-requires c κs =
-    let went = c .before .before .before .before .before .before .before in
-    let fine = went .before .before .before in
-    let s = sound-in _ _ _ (fine .before .before .before .admit .ensures) (fine .if1 .left) in
-    omega (arith, went .run .ensures .0 .task, s .passed .few, s .count)
+as-run-of-requires : tie.Need-as-run-of-requires
+as-run-of-requires c κs = search needs
 
 same-length : tie.Need-same-length
 same-length c = search needs
 
-returns-2 : tie.Need-returns-2
-returns-2 c =
-    let miss = c .before .before .before .before .before in
-    let went = miss .before .before .before in
-    let fine = went .before .before .before in
-    let a = fine .before .before .before in
-    let e = rw (a .before .slots-wrong .ensures) at (a .admit .ensures) in
-    as-run-missed _ e (fine .if1 .left) (went .run .ensures .0) (went .run .ensures .1) (miss .if2 .taken) (c .id-of .ensures) (c .before .before .before .fill .ensures)
-
-same-length-2 : tie.Need-same-length-2
-same-length-2 c = search needs
-
-returns-3 : tie.Need-returns-3
-returns-3 c =
-    let went = c .before .before .before in
-    let fine = went .before .before .before in
-    let a = fine .before .before .before in
-    let e = rw (a .before .slots-wrong .ensures) at (a .admit .ensures) in
-    as-run-filled _ e (fine .if1 .left) (went .run .ensures .0) (went .run .ensures .1) (omega arith)
+returns : tie.Need-returns
+returns c =
+    let a = c .before .before .before .before .before .before .before .before .before .args in
+    let s = textSource (a .text .now) in
+    as-run-to (sourceOf (readOf s)) s (read-alike s) (a .requests .now) (a .loadings .now) (a .policy) (a .slots .now) _ _ (rw (c .before .before .before .before .read-rows .ensures) at (c .before .before .as-run-of .ensures))
 
 pub as-run-spec : {M : Type 1} → statement M
-as-run-spec =
-    tie.close
-    (tie.spec
-    slots-wrong-requires
-    admit-requires
-    returns
-    run-requires
-    fill-requires
-    id-of-requires
-    same-length
-    returns-2
-    same-length-2
-    returns-3)
+as-run-spec = tie.close (tie.spec read-rows-requires as-run-of-requires same-length returns)

@@ -1,78 +1,26 @@
--- `responses` meets its contract: the refusal of checks 1 to 13, or what `decide` gives of the table admitted; the lent numbers are
--- written only where that is accepted.
-use mathlib.Core.Path.{refl, sym, _∙_}
-use native.Mathlib.Omega.{arith}
+-- `responses` is that of the source which the text is.
+use Rattle.rules.specs.Sources.{textSource, readOf, sourceOf}
+use Rattle.reordering.specs.Alike.{read-alike}
+use Rattle.theory.specs.Reordered.{responses-to}
 use borrow.Author.Needs.{needs}
-use borrow.Author.Tests.{ltb-false}
-use Rattle.rules.specs.Verdicts.{systemOf}
-use Rattle.checker.proofs.InHand.{refusal-in, fit-in, sound-in}
-use Rattle.checker.proofs.Replied.{given, decided, accepted-leaves, other-leaves}
-use Rattle.checker.proofs.SoundTables.{count-top}
+use borrow.Author.Needs.{needs}
 use Rattle.checker.proofs.responses.Statement.{statement}
 use Rattle.checker.proofs.responses.Tie as tie
 
-responses-wrong-requires : tie.Need-responses-wrong-requires
-responses-wrong-requires c κs = search needs
+read-rows-requires : tie.Need-read-rows-requires
+read-rows-requires c κs = search needs
 
-admit-requires : tie.Need-admit-requires
-admit-requires c κs = search needs
-
-returns : tie.Need-returns
-returns c =
-    let a = c .before .before .before in
-    let e = rw (a .before .responses-wrong .ensures) at (a .admit .ensures) in
-    record { reply = given (refusal-in _ _ _ e) (c .if1 .taken) _ _ _; buffer = refl }
-
-decide-requires : tie.Need-decide-requires
-decide-requires c κs = sound-in _ _ _ (c .before .before .before .before .admit .ensures) (c .before .if1 .left)
-
-accepted-requires : tie.Need-accepted-requires
-accepted-requires c κs = search needs
-
-write-worst-requires : tie.Need-write-worst-requires
-write-worst-requires c κs =
-    let fine = c .before .before .before .before .before .before in
-    let a = fine .before .before .before in
-    let e = rw (a .before .responses-wrong .ensures) at (a .admit .ensures) in
-    let few = count-top (a .admit .result .table) (sound-in _ _ _ e (fine .if1 .left)) in
-    omega (arith, ltb-false, fit-in _ _ _ e (fine .if1 .left))
+responses-of-requires : tie.Need-responses-of-requires
+responses-of-requires c κs = search needs
 
 same-length : tie.Need-same-length
 same-length c = search needs
 
-returns-2 : tie.Need-returns-2
-returns-2 c =
-    let fine = c .before .before .before .before .before .before .before .before .before in
-    let a = fine .before .before .before in
-    let e = rw (a .before .responses-wrong .ensures) at (a .admit .ensures) in
-    let o = c .before .before .before .before .before .before .before .decide in
-    record {
-      reply = decided _ _ e (fine .if1 .left) (o .ensures);
-      buffer = accepted-leaves _ _ e (fine .if1 .left) (o .ensures) (c .before .before .write-worst .ensures) (sym (c .before .before .before .before .before .before .accepted .ensures) ∙ c .before .before .before .before .before .if2 .taken);
-    }
-
-returns-3 : tie.Need-returns-3
-returns-3 c =
-    let fine = c .before .before .before .before in
-    let a = fine .before .before .before in
-    let e = rw (a .before .responses-wrong .ensures) at (a .admit .ensures) in
-    let x = a .before .before .before .before .args in
-    let o = c .before .before .decide in
-    record {
-      reply = decided _ _ e (fine .if1 .left) (o .ensures);
-      buffer = other-leaves (systemOf (x .policy) (x .text .now)) (o .result .verdict) (x .numbers .now) (sym (c .before .accepted .ensures) ∙ c .if2 .left);
-    }
+returns : tie.Need-returns
+returns c =
+    let a = c .before .before .before .before .before .before .before .args in
+    let s = textSource (a .text .now) in
+    responses-to (sourceOf (readOf s)) s (read-alike s) (a .policy) (a .allowance) (a .numbers .now) _ _ (rw (c .before .before .before .before .read-rows .ensures) at (c .before .before .responses-of .ensures))
 
 pub responses-spec : {M : Type 1} → statement M
-responses-spec =
-    tie.close
-    (tie.spec
-    responses-wrong-requires
-    admit-requires
-    returns
-    decide-requires
-    accepted-requires
-    write-worst-requires
-    same-length
-    returns-2
-    returns-3)
+responses-spec = tie.close (tie.spec read-rows-requires responses-of-requires same-length returns)

@@ -4,7 +4,7 @@ use mathlib.Core.Logic.{inr}
 use native.Mathlib.Omega.{arith}
 use borrow.Author.Needs.{needs}
 use Rattle.checker.proofs.Needed.{missed-end, accepted-end, undecided-end}
-use Rattle.checker.proofs.SoundTables.{count-top}
+use Rattle.machine.proofs.SoundTables.{count-top}
 use Rattle.checker.proofs.decide.decide.Statement.{statement}
 use Rattle.checker.proofs.decide.decide.Tie as tie
 

@@ -1,0 +1,15 @@
+pub mod Arms
+pub mod Begin
+pub mod Bytes
+pub mod Going
+pub mod Joins
+pub mod Leap
+pub mod Loads
+pub mod Minima
+pub mod Misses
+pub mod Painted
+pub mod Pass
+pub mod Places
+pub mod SoundTables
+pub mod Watch
+pub mod Who

@@ -1,0 +1,4 @@
+pub mod Paint
+pub mod Turns
+pub mod Least
+pub mod Machine
