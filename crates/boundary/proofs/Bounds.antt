@@ -29,7 +29,7 @@ use Rattle.rules.specs.declared.ScheduleReply.the-variants as schedule
 use Rattle.basics.specs.Cases.{test, eq-case, clash, both-true}
 use Rattle.basics.specs.Search.{lowest-top}
 use Rattle.reordering.specs.All.{All}
-use Rattle.reordering.specs.Passed.{Fine, Passed, passed, passed-canonical}
+use Rattle.reordering.specs.Passed.{Fine, Passed, passed, check-none, lent-none, passed-canonical}
 use Rattle.theory.specs.Policies.{policy-repeats}
 use Rattle.theory.specs.Rows.{at-most}
 use Rattle.theory.specs.Sources.{valid-rows}
@@ -175,15 +175,6 @@ check-small : (n : ℕ) (b : Bool) (f : Refusal) → n < 32 → SmallR f → Sma
 check-small n true f h k = (h, omega arith)
 check-small n false f h k = k
 
--- a check whose number is not 0 passes where none is given
-check-none : (n : ℕ) (b : Bool) (f : Refusal) → 0 < n → check n b f .number ≡ 0 → (b ≡ false) × (f .number ≡ 0)
-check-none n true f h e = absurd (omega arith)
-check-none n false f h e = (refl, e)
-
--- where a buffer is lent
-pub lent-none : (p : ℕ) (unfit : Bool) (f : Refusal) → check 1 (policyWrong p) (check 2 unfit f) .number ≡ 0 → (unfit ≡ false) × (f .number ≡ 0)
-lent-none p unfit f e = check-none 2 unfit f (omega arith) (check-none 1 (policyWrong p) (check 2 unfit f) (omega arith) e .1)
-
 -- A TABLE THAT PASSES
 
 row-low : (ws : List Row) → All Fine ws → (i : ℕ) → (row ws i .id ≤ 255) × (row ws i .period ≤ 10000)
@@ -232,18 +223,18 @@ module _ (s : Source) (small : SmallSource s) (p : ℕ) where
   pub verdict-small : (a : ℕ) (v : Verdict) → VerdictIs p a s v → Small v
   verdict-small a v = replies-small (verdictRefusal p s) a v
       (check-small 1 (policyWrong p) (refusalOf s) (omega arith) (read-small s small))
-      (λ e. check-none 1 (policyWrong p) (refusalOf s) (omega arith) e .1)
+      (λ e. check-none 0 (policyWrong p) (refusalOf s) e .1)
 
   lent-small : (unfit : Bool) → SmallR (refusalFor p unfit s)
   lent-small unfit = check-small 1 (policyWrong p) (check 2 unfit (refusalOf s)) (omega arith) (check-small 2 unfit (refusalOf s) (omega arith) (read-small s small))
 
   pub bytes-small : (a n : ℕ) (v : Verdict) → Replies (bytesRefusal p n s) (DecidesOf p a s) v → Small v
-  bytes-small a n v = replies-small (bytesRefusal p n s) a v (lent-small (ltb n 64)) (λ e. lent-none p (ltb n 64) (refusalOf s) e .1)
+  bytes-small a n v = replies-small (bytesRefusal p n s) a v (lent-small (ltb n 64)) (λ e. lent-none p (ltb n 64) s e .1)
 
   pub writes-small : (c : ℕ → Choice) (before after : List ℕ) (v : ScheduleReply)
       → Writes (slotsRefusal p (length before) s) (systemOf p s) c before after v → SmallSchedule v
   writes-small c before after v w = eq-case (slotsRefusal p (length before) s .number) 0
-      (λ e. let k = lent-none p (slotsWrong (length before)) (refusalOf s) e in go v (k .0) (k .1) (w .filled e .0))
+      (λ e. let k = lent-none p (slotsWrong (length before)) s e in go v (k .0) (k .1) (w .filled e .0))
       (λ e. rw (w .refused e .0) (lent-small (slotsWrong (length before))))
     where
       go : (v : ScheduleReply) → slotsWrong (length before) ≡ false → refusalOf s .number ≡ 0 → Fills (systemOf p s) c (length before / 2) v → SmallSchedule v

@@ -13,10 +13,11 @@ use Rattle.rules.specs.Sources.{Source}
 use Rattle.rules.specs.Checks.{refusalOf, responsesRefusal}
 use Rattle.rules.specs.Verdicts.{systemOf, DecidesOf, Replies, Hold, Leaves, ResponsesAre}
 use Rattle.basics.specs.Cases.{eq-case}
+use Rattle.reordering.specs.Passed.{lent-none}
 use Rattle.boundary.specs.Bytes.{numbersFrom, bytesOf}
 use Rattle.boundary.specs.Crossing.{bytesRefusal, HoldBytes, LeavesBytes}
 use Rattle.boundary.proofs.Numbers.{same-bytes, bytes-length, numbers-length, bytes-at, bytes-drop}
-use Rattle.boundary.proofs.Bounds.{lent-none, tasks-few, worst-low}
+use Rattle.boundary.proofs.Bounds.{tasks-few, worst-low}
 
 module _ (p a : ℕ) (s : Source) (before : List ℕ) (bytes : (i : ℕ) → getD before i 0 < 256) (wide : 64 ≤ length before) where
   -- sixteen numbers are enough where 64 bytes are
@@ -33,7 +34,7 @@ module _ (p a : ℕ) (s : Source) (before : List ℕ) (bytes : (i : ℕ) → get
 
     accepted-fine : (n : ℕ) → v ≡ Accepted n → refusalOf s .number ≡ 0
     accepted-fine n e = eq-case (bytesRefusal p (length before) s .number) 0
-        (λ z. lent-none p (ltb (length before) 64) (refusalOf s) z .1)
+        (λ z. lent-none p (ltb (length before) 64) s z .1)
         (λ z. let q = right .refused z in let no : _≡_ {A = ℕ} 0 1 = cc in absurd (omega arith))
 
     hold : refusalOf s .number ≡ 0 → Hold (systemOf p s) (numbersFrom 16 0 before) after → HoldBytes (systemOf p s) before (bytesOf after ++ drop 64 before)

@@ -11,13 +11,12 @@ use Rattle.rules.specs.declared.Refusal.{Refusal}
 use Rattle.rules.specs.declared.RowsRead.{RowsRead}
 use Rattle.rules.specs.Table.{canonical}
 use Rattle.rules.specs.Sources.{rowsIn, sourceOf}
-use Rattle.rules.specs.Checks.{refusalOf, policyWrong, refusalFor}
+use Rattle.rules.specs.Checks.{refusalOf, refusalFor}
 use Rattle.rules.specs.Policies.{policy, system}
 use Rattle.rules.specs.Verdicts.{tasksOf, systemOf}
 use Rattle.reordering.specs.Canonical.{canonical-length, canonical-omax, canonical-hyper}
-use Rattle.reordering.specs.Passed.{Passed, passed, passed-canonical}
+use Rattle.reordering.specs.Passed.{Passed, passed, lent-none, passed-canonical}
 use Rattle.reordering.specs.Alike.{rows-count, rows-first}
-use Rattle.basics.specs.Cases.{test}
 use Rattle.table.specs.declared.TableRead.{TableRead}
 use Rattle.table.specs.Tables.{tableIn, tableRead}
 use Rattle.machine.specs.Machine.{Sound, live, systemIn}
@@ -56,9 +55,7 @@ module _ (p : ℕ) (b : Bool) (s : RowsRead) {g : TableRead} (e : g ≡ tableRea
     none-in = ap (λ (f : Refusal). f .number) refusal-in ∙ fine
 
     passes : (b ≡ false) × (refusalOf (sourceOf s) .number ≡ 0)
-    passes = test (policyWrong p)
-        (λ k. absurd (omega (arith, rw k at none-in)))
-        (λ k. test b (λ h. absurd (omega (arith, rw (k, h) at none-in))) (λ h. (h, rw (k, h) at none-in)))
+    passes = lent-none p b (sourceOf s) none-in
 
     pub fit-in : b ≡ false
     fit-in = passes .0

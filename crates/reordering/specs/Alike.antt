@@ -1,5 +1,5 @@
 -- Sources that are read as the same table: the same refusal, or the same tasks. Every reply to the one is then a reply to the other
--- (`theory/specs/Sources`). A source and what the code keeps of it are alike (`read-alike`), however many rows it has.
+-- (`theory/specs/Reordered`). A source and what the code keeps of it are alike (`read-alike`), however many rows it has.
 use mathlib.Core.Path.{_≡_, sym, ap, _∙_}
 use mathlib.Core.List.{List, _++_}
 use Prim.Native.Nat.{_≤_, _<_}

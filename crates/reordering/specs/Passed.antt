@@ -10,9 +10,10 @@ use lib.Dec.{eqb, leb, ltb}
 use lib.ListN.{length, getD}
 use borrow.Author.Tests.{eqb-true, eq-eqb, ne-eqb, leb-true, leb-false, ltb-false, not-false}
 use Rattle.rules.specs.declared.Row.{Row}
+use Rattle.rules.specs.declared.Refusal.{Refusal}
 use Rattle.rules.specs.Table.{noRow, canonical, hyper}
 use Rattle.rules.specs.Sources.{Source}
-use Rattle.rules.specs.Checks.{within, idWrong, timeWrong, priorityWrong, orderWrong, resumeWrong, key, times, shared, fault, better, smallest, place, found, rowChecks, checks, firstFault, refusalOf}
+use Rattle.rules.specs.Checks.{within, idWrong, timeWrong, priorityWrong, orderWrong, resumeWrong, key, times, shared, fault, better, smallest, place, found, rowChecks, checks, firstFault, refusalOf, check, policyWrong, refusalFor}
 use Rattle.basics.specs.Cases.{test, clash, eq-case, le-case, both-true, Each}
 use Rattle.reordering.specs.All.{All, all-at, all-from}
 use Rattle.reordering.specs.Permutations.{all-perm, times-perm}
@@ -199,6 +200,14 @@ unfolding refusalOf
 passed s h = eq-case (s .refusal .number) 0
     (λ e. (e, passed-rows (s .rows) (rw (eq-eqb (s .refusal .number) 0 e) at h)))
     (λ e. absurd (e (rw (ne-eqb (s .refusal .number) 0 e) at h)))
+
+-- nor do those of the policy and of a lent buffer, where none is given
+pub check-none : (n : ℕ) (fails : Bool) (f : Refusal) → check (suc n) fails f .number ≡ 0 → (fails ≡ false) × (f .number ≡ 0)
+check-none n true f e = absurd (omega arith)
+check-none n false f e = (refl, e)
+
+pub lent-none : (p : ℕ) (unfit : Bool) (s : Source) → refusalFor p unfit s .number ≡ 0 → (unfit ≡ false) × (refusalOf s .number ≡ 0)
+lent-none p unfit s e = check-none 1 unfit (refusalOf s) (check-none 0 (policyWrong p) _ e .1)
 
 -- the canonical form passes too
 pub passed-canonical : (rows : List Row) → Passed rows → Passed (canonical rows)

@@ -99,18 +99,12 @@ module _ {p : ℕ} {unfit : Bool} (a : Admitted p unfit) (t : RowsRead) where
   unfolding firstFault found
   count-refused own e = refused-read p unfit t (record { number = 5; place = 0 }) (rows-refusal own ∙ rw (rows-count t, e)) (λ z. omega arith)
 
-enough-rows : (t : RowsRead) → 1 ≤ t .count → t .count ≤ 16 → found 5 (rowsIn t) ≡ 0
-unfolding found
-enough-rows t low high = rw (rows-count t, le-leb 1 (t .count) low, le-leb (t .count) 16 high)
+  -- 1 to 16 rows, of sixteen that are held: what is left is to go over them
+  enough-rows : 1 ≤ t .count → t .count ≤ 16 → found 5 (rowsIn t) ≡ 0
+  unfolding found
+  enough-rows low high = rw (rows-count t, le-leb 1 (t .count) low, le-leb (t .count) 16 high)
 
--- ITS ROWS, 1 to 16 of sixteen that are held, where the reader refused nothing
-pub rows-read : {p : ℕ} {unfit : Bool} → Admitted p unfit → (t : RowsRead) → t .refusal .number ≡ 0 → 1 ≤ t .count → t .count ≤ 16 → length (t .rows) ≡ 16
-    → rowsRead t ≡ tableRead p unfit t
-unfolding rowsRead tableRead firstFault
-rows-read a t own low high full = ap (λ (f : Refusal). unlessRefused f t) (sym (rows-refusal a t own ∙ rw enough (ap (firstFault (rowChecks ++ (13 ∷ []))) rows-are)))
-  where
-    rows-are : rowsIn t ≡ take (t .count) (t .rows)
-    rows-are = rows-first t (omega arith)
-
-    enough : found 5 (rowsIn t) ≡ 0
-    enough = enough-rows t low high
+  pub rows-read : t .refusal .number ≡ 0 → 1 ≤ t .count → t .count ≤ 16 → length (t .rows) ≡ 16 → rowsRead t ≡ tableRead p unfit t
+  unfolding rowsRead tableRead firstFault
+  rows-read own low high full = ap (λ (f : Refusal). unlessRefused f t)
+      (sym (rows-refusal own ∙ rw (enough-rows low high) (ap (firstFault (rowChecks ++ (13 ∷ []))) (rows-first t (omega arith)))))

@@ -2,10 +2,8 @@
 -- and two replies that meet a contract are equal, with what they leave in lent memory (`verdict-same` and so on). With `perm-alike` this
 -- is "Reordering the rows changes no reply", of whatever was read; `Texts` has it of texts.
 use mathlib.Core.Path.{_≡_, subst}
-use mathlib.Core.Bool.{Bool, true, false}
 use mathlib.Core.List.{List}
-use Prim.Native.Nat.{ℕ, suc}
-use native.Mathlib.Omega.{arith}
+use Prim.Native.Nat.{ℕ}
 use lib.ListN.{length}
 use Rattle.rules.specs.declared.Row.{Row}
 use Rattle.rules.specs.declared.Refusal.{Refusal}
@@ -13,24 +11,17 @@ use Rattle.rules.specs.declared.Verdict.{Verdict}
 use Rattle.rules.specs.declared.ScheduleReply.{ScheduleReply}
 use Rattle.rules.specs.Table.{omax, hyper}
 use Rattle.rules.specs.Sources.{Source}
-use Rattle.rules.specs.Checks.{check, refusalOf, policyWrong, responsesWrong, slotsWrong, refusalFor, slotsRefusal}
+use Rattle.rules.specs.Checks.{check, refusalOf, policyWrong, responsesWrong, slotsWrong, slotsRefusal}
 use Rattle.rules.specs.Policies.{System, policy, system}
 use Rattle.rules.specs.Slots.{Choice, stated}
 use Rattle.rules.specs.AsRun.{listed}
 use Rattle.rules.specs.Verdicts.{tasksOf, systemOf, Decides, DecidesOf, Replies, VerdictIs, Leaves, ResponsesAre}
 use Rattle.rules.specs.Schedules.{Writes, ScheduleIs, AsRunIs}
 use Rattle.basics.specs.Cases.{eq-case}
+use Rattle.reordering.specs.Passed.{check-none, lent-none}
 use Rattle.reordering.specs.Alike.{Alike}
 use Rattle.theory.specs.Replies.{verdict-one, responses-one}
 use Rattle.theory.specs.ScheduleReplies.{writes-one}
-
--- where none of the checks is given, the table's are not
-check-none : (n : ℕ) (fails : Bool) (f : Refusal) → check (suc n) fails f .number ≡ 0 → f .number ≡ 0
-check-none n true f e = absurd (omega arith)
-check-none n false f e = e
-
-both-none : (p : ℕ) (unfit : Bool) (s : Source) → refusalFor p unfit s .number ≡ 0 → refusalOf s .number ≡ 0
-both-none p unfit s e = check-none 1 unfit (refusalOf s) (check-none 0 (policyWrong p) _ e)
 
 module _ (s t : Source) (alike : Alike s t) where
   -- A REPLY TO s IS ONE TO t, where it is refused alike
@@ -48,13 +39,13 @@ module _ (s t : Source) (alike : Alike s t) where
 
   pub verdict-to : (p a : ℕ) (r : Verdict) → VerdictIs p a s r → VerdictIs p a t r
   verdict-to p a r u = subst (λ (g : Refusal). Replies (check 1 (policyWrong p) g) (DecidesOf p a t) r) (alike .refusal)
-      (replies (check 1 (policyWrong p) (refusalOf s)) p a r (check-none 0 (policyWrong p) _) u)
+      (replies (check 1 (policyWrong p) (refusalOf s)) p a r (λ e. check-none 0 (policyWrong p) _ e .1) u)
 
   pub responses-to : (p a : ℕ) (before after : List ℕ) (r : Verdict) → ResponsesAre p a s before after r → ResponsesAre p a t before after r
   responses-to p a before after r u = record {
     reply = subst (λ (g : Refusal). Replies (check 1 (policyWrong p) (check 2 (responsesWrong (length before)) g)) (DecidesOf p a t) r) (alike .refusal)
-        (replies _ p a r (both-none p (responsesWrong (length before)) s) (u .reply));
-    buffer = leaves _ p a r before after (both-none p (responsesWrong (length before)) s) (u .reply) (u .buffer);
+        (replies _ p a r (λ e. lent-none p (responsesWrong (length before)) s e .1) (u .reply));
+    buffer = leaves _ p a r before after (λ e. lent-none p (responsesWrong (length before)) s e .1) (u .reply) (u .buffer);
   }
 
   -- schedule and as run, whose choices are made of the system
@@ -65,7 +56,7 @@ module _ (s t : Source) (alike : Alike s t) where
       subst (λ (g : Refusal). Writes (check 1 (policyWrong p) (check 2 (slotsWrong (length before)) g)) (systemOf p t) (c (systemOf p t)) before after r) (alike .refusal) (record {
         refused = u .refused;
         filled = λ e. subst (λ (ws : List Row). Writes (slotsRefusal p (length before) s) (system (policy p) ws) (c (system (policy p) ws)) before after r)
-            (alike .tasks (both-none p (slotsWrong (length before)) s e)) u .filled e;
+            (alike .tasks (lent-none p (slotsWrong (length before)) s e .1)) u .filled e;
       })
 
   pub as-run-to : (xs zs : List ℕ) (p : ℕ) (before after : List ℕ) (r : ScheduleReply) → AsRunIs p s xs zs before after r → AsRunIs p t xs zs before after r
