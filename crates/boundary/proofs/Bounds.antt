@@ -16,24 +16,28 @@ use Rattle.rules.specs.declared.Refusal.{Refusal}
 use Rattle.rules.specs.Text.{lines, header, same, fields, isDigit, digits, inner, good, closed, nil, behind, shaped, all, wellFormed, firstBad, illFormed, badLine, number, value, rowOf, rowsOf, breaks, opened, push}
 use Rattle.rules.specs.declared.Verdict.{Verdict}
 use Rattle.rules.specs.declared.ScheduleReply.{ScheduleReply}
+use Rattle.rules.specs.declared.WriteReply.{WriteReply}
 use Rattle.rules.specs.Table.{omax, hyper}
 use Rattle.rules.specs.Sources.{Source, textSource}
-use Rattle.rules.specs.Checks.{within, better, smallest, fault, place, found, checks, firstFault, refusalOf, check, policyWrong, slotsWrong, verdictRefusal, refusalFor, slotsRefusal}
+use Rattle.rules.specs.Checks.{within, better, smallest, fault, place, found, checks, firstFault, refusalOf, check, policyWrong, tooFew, slotsWrong, verdictRefusal, refusalFor, slotsRefusal, idsRefusal}
 use Rattle.rules.specs.Policies.{policy, row}
 use Rattle.rules.specs.Slots.{Choice, complete, run, stated}
 use Rattle.rules.specs.Decided.{missedAt, SlotsNeeded}
 use Rattle.rules.specs.Verdicts.{tasksOf, systemOf, missedId, plain, DecidesOf, Replies, VerdictIs, response, Worst}
 use Rattle.rules.specs.Schedules.{Fills, Writes}
+use Rattle.rules.specs.Written.{IdsAre}
 use Rattle.rules.specs.declared.Verdict.the-variants as verdict
 use Rattle.rules.specs.declared.ScheduleReply.the-variants as schedule
+use Rattle.rules.specs.declared.WriteReply.the-variants as write
 use Rattle.basics.specs.Cases.{test, eq-case, clash, both-true}
 use Rattle.basics.specs.Search.{lowest-top}
 use Rattle.reordering.specs.All.{All}
+use Rattle.reordering.specs.Canonical.{canonical-length}
 use Rattle.reordering.specs.Passed.{Fine, Passed, passed, check-none, lent-none, passed-canonical}
 use Rattle.theory.specs.Policies.{policy-repeats}
 use Rattle.theory.specs.Rows.{at-most}
 use Rattle.theory.specs.Sources.{valid-rows}
-use Rattle.boundary.specs.Packed.{SmallRefusal, Small, SmallSchedule}
+use Rattle.boundary.specs.Packed.{SmallRefusal, Small, SmallSchedule, SmallWrite}
 use Rattle.boundary.specs.Crossing.{bytesRefusal}
 
 -- A TEXT: an id of at most five digits, which 32 bits hold
@@ -210,7 +214,7 @@ module _ (s : Source) (fine : refusalOf s .number ≡ 0) where
   decides-small p a verdict.Undecided d = tt
   decides-small p a (verdict.Refused n q) d = absurd d
 
--- VERDICT AND RESPONSES, SCHEDULE AND AS RUN
+-- VERDICT AND RESPONSES, SCHEDULE AND AS RUN, IDS
 slots-low : (n : ℕ) → slotsWrong n ≡ false → n ≤ 65536
 slots-low n e = test (eqb (n % 2) 0) (λ h. ltb-false 65536 n (rw h at e)) (λ h. clash refl (rw h at e))
 
@@ -241,3 +245,10 @@ module _ (s : Source) (small : SmallSource s) (p : ℕ) where
       go schedule.Filled h fine d = tt
       go (schedule.Missed t i) h fine d = (omega (arith, d .1, slots-low (length before) h), rw (d .2) (missed-low s fine p c t))
       go (schedule.Refused n q) h fine d = absurd d
+
+pub ids-small : (s : Source) → SmallSource s → (before after : List ℕ) (v : WriteReply) → IdsAre s before after v → SmallWrite v
+ids-small s small before after v d =
+    let unfit = tooFew (length before) in
+    eq-case (idsRefusal (length before) s .number) 0
+    (λ e. rw (d .written e .0) (omega (arith, tasks-few s (check-none 1 unfit (refusalOf s) e .1), canonical-length (s .rows))))
+    (λ e. rw (d .refused e .0) (check-small 2 unfit (refusalOf s) (omega arith) (read-small s small)))

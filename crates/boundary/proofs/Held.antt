@@ -1,62 +1,90 @@
--- From the sixteen numbers that the checker is lent to the bytes that the host lends: what the checker says of the numbers holds of
--- the bytes that they are written over. `otter_responses` uses it.
-use mathlib.Core.Path.{_≡_, refl, _∙_}
+-- From the numbers that the checker is lent to the bytes that the host lends: what the checker says of the numbers holds of the bytes
+-- that they are written over, and where it does not accept, no byte is stored. `otter_responses` uses it.
+use mathlib.Core.Path.{_≡_, refl, sym, _∙_}
+use mathlib.Core.Bool.{true, false}
 use mathlib.Core.List.{List, _++_}
-use Prim.Native.Nat.{ℕ, _≤_, _<_}
+use Prim.Native.Nat.{ℕ, _*_, _≤_}
 use native.Mathlib.Omega.{arith}
 use borrow.Author.Tests.{le-ltb}
 use lib.Dec.{ltb}
-use lib.ListN.{length, getD, drop, length-append, length-drop}
+use lib.ListN.{length, getD, take, drop, length-append, length-drop}
+use lib.Seq.{drop-at, getD-take, length-take-le}
 use Rattle.rules.specs.declared.Verdict.{Verdict}
 use Rattle.rules.specs.declared.Verdict.the-variants.{Accepted, Missed, Undecided, Refused}
 use Rattle.rules.specs.Sources.{Source}
 use Rattle.rules.specs.Checks.{refusalOf, responsesRefusal}
+use Rattle.rules.specs.Policies.{System}
 use Rattle.rules.specs.Verdicts.{systemOf, DecidesOf, Replies, Hold, Leaves, ResponsesAre}
-use Rattle.basics.specs.Cases.{eq-case}
+use Rattle.basics.specs.Cases.{clash, eq-case}
+use Rattle.reordering.specs.Canonical.{canonical-length}
 use Rattle.reordering.specs.Passed.{lent-none}
-use Rattle.boundary.specs.Bytes.{numbersFrom, bytesOf}
+use Rattle.checker.specs.Outcomes.{acceptedOf}
+use Rattle.boundary.specs.Bytes.{bytesOf}
 use Rattle.boundary.specs.Crossing.{bytesRefusal, HoldBytes, LeavesBytes}
-use Rattle.boundary.proofs.Numbers.{same-bytes, bytes-length, numbers-length, bytes-at, bytes-drop}
+use Rattle.boundary.proofs.Numbers.{bytes-length, bytes-at}
 use Rattle.boundary.proofs.Bounds.{tasks-few, worst-low}
 
-module _ (p a : ℕ) (s : Source) (before : List ℕ) (bytes : (i : ℕ) → getD before i 0 < 256) (wide : 64 ≤ length before) where
+module _ (p a : ℕ) (s : Source) (before : List ℕ) (wide : 64 ≤ length before) (lent numbers : List ℕ) (sixteen : length lent ≡ 16)
+    (v : Verdict) (r : ResponsesAre p a s lent numbers v) where
   -- sixteen numbers are enough where 64 bytes are
-  refusal-same : responsesRefusal p (length (numbersFrom 16 0 before)) s ≡ bytesRefusal p (length before) s
-  refusal-same = rw (numbers-length 16 0 before, le-ltb (length before) 64 wide) refl
+  pub right : Replies (bytesRefusal p (length before) s) (DecidesOf p a s) v
+  right =
+      let same : responsesRefusal p (length lent) s ≡ bytesRefusal p (length before) s = rw (sixteen, le-ltb (length before) 64 wide) refl in
+      rw same at (r .reply)
 
-  module _ (after : List ℕ) (v : Verdict) (r : ResponsesAre p a s (numbersFrom 16 0 before) after v) where
-    pub right : Replies (bytesRefusal p (length before) s) (DecidesOf p a s) v
-    right = rw refusal-same at (r .reply)
-
-    -- bytes that are written again as they were read stay
-    stays : bytesOf (numbersFrom 16 0 before) ++ drop 64 before ≡ before
-    stays = same-bytes before bytes 16 0 wide
-
-    accepted-fine : (n : ℕ) → v ≡ Accepted n → refusalOf s .number ≡ 0
-    accepted-fine n e = eq-case (bytesRefusal p (length before) s .number) 0
+  -- ACCEPTED
+  module _ (yes : acceptedOf v ≡ true) where
+    passes : refusalOf s .number ≡ 0
+    passes = eq-case (bytesRefusal p (length before) s .number) 0
         (λ z. lent-none p (ltb (length before) 64) s z .1)
-        (λ z. let q = right .refused z in let no : _≡_ {A = ℕ} 0 1 = cc in absurd (omega arith))
+        (λ z. clash yes (rw (right .refused z) refl))
 
-    hold : refusalOf s .number ≡ 0 → Hold (systemOf p s) (numbersFrom 16 0 before) after → HoldBytes (systemOf p s) before (bytesOf after ++ drop 64 before)
-    hold fine h =
-        let full : length after ≡ 16 = h .length ∙ numbers-length 16 0 before in
-        let few = tasks-few s fine in
-        let n = systemOf p s .tasks in
+    pub few : length (s .rows) ≤ 16
+    few = omega (arith, tasks-few s passes, canonical-length (s .rows))
+
+    pub numbers-long : length numbers ≡ 16
+    numbers-long = go v (r .buffer)
+      where
+        go : (w : Verdict) → Leaves (systemOf p s) w lent numbers → length numbers ≡ 16
+        go (Accepted n) l = l .length ∙ sixteen
+        go (Missed t i) l = rw l sixteen
+        go Undecided l = rw l sixteen
+        go (Refused n q) l = rw l sixteen
+
+    abbrev pub over : List ℕ
+    over = bytesOf (take (length (s .rows)) numbers) ++ drop (4 * length (s .rows)) before
+
+    hold : Hold (systemOf p s) lent numbers → HoldBytes (systemOf p s) before over
+    hold h =
+        let n = length (s .rows) in
+        let tasks : systemOf p s .tasks ≡ n = canonical-length (s .rows) in
+        let size : length (take n numbers) ≡ n = length-take-le n numbers (omega (arith, few, numbers-long)) in
+        let bytes : length (bytesOf (take n numbers)) ≡ 4 * n = rw (bytes-length, size) refl in
         record {
-          length = rw (length-append, bytes-length, full, length-drop) (omega arith);
-          worst = λ i low. (getD after i 0, h .worst i low, record { fits = omega (arith, worst-low s fine p i (getD after i 0) (h .worst i low)); bytes = bytes-at after (drop 64 before) i (omega arith) });
-          rest = bytes-drop after (drop 64 before) n (omega arith) ∙ rw (h .rest, ← bytes-drop (numbersFrom 16 0 before) (drop 64 before) n (omega (arith, numbers-length 16 0 before)), stays) refl;
+          length = rw (length-append, bytes, length-drop) (omega (arith, few));
+          worst = λ i low. let here = getD-take n numbers i 0 (omega arith) in (
+            getD numbers i 0,
+            h .worst i low,
+            record {
+              fits = omega (arith, worst-low s passes p i (getD numbers i 0) (h .worst i low));
+              bytes = bytes-at (take n numbers) (drop (4 * n) before) i (omega arith) ∙ rw here;
+            },
+          );
+          rest = rw tasks (drop-at (bytesOf (take n numbers)) (drop (4 * n) before) (4 * n) bytes);
         }
 
-    pub buffer : LeavesBytes (systemOf p s) v before (bytesOf after ++ drop 64 before)
-    buffer = go v (r .buffer) accepted-fine
+    pub leaves-accepted : LeavesBytes (systemOf p s) v before over
+    leaves-accepted = go v yes (r .buffer)
       where
-        unchanged : after ≡ numbersFrom 16 0 before → bytesOf after ++ drop 64 before ≡ before
-        unchanged e = rw e stays
+        go : (w : Verdict) → acceptedOf w ≡ true → Leaves (systemOf p s) w lent numbers → LeavesBytes (systemOf p s) w before over
+        go (Accepted n) k l = hold l
+        go (Missed t i) k l = clash k refl
+        go Undecided k l = clash k refl
+        go (Refused n q) k l = clash k refl
 
-        go : (w : Verdict) → Leaves (systemOf p s) w (numbersFrom 16 0 before) after → ((n : ℕ) → w ≡ Accepted n → refusalOf s .number ≡ 0)
-            → LeavesBytes (systemOf p s) w before (bytesOf after ++ drop 64 before)
-        go (Accepted n) l fine = hold (fine n refl) l
-        go (Missed t i) l fine = unchanged l
-        go Undecided l fine = unchanged l
-        go (Refused n q) l fine = unchanged l
+-- ANY OTHER REPLY
+pub leaves-other : (y : System) (v : Verdict) (before : List ℕ) → acceptedOf v ≡ false → LeavesBytes y v before before
+leaves-other y (Accepted n) before k = clash refl k
+leaves-other y (Missed t i) before k = refl
+leaves-other y Undecided before k = refl
+leaves-other y (Refused n q) before k = refl

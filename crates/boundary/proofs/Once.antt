@@ -12,13 +12,15 @@ use Rattle.rules.specs.Sources.{Source}
 use Rattle.rules.specs.Slots.{stated}
 use Rattle.rules.specs.Policies.{System}
 use Rattle.rules.specs.AsRun.{listed}
-use Rattle.rules.specs.Checks.{verdictRefusal, slotsRefusal}
+use Rattle.rules.specs.Checks.{verdictRefusal, slotsRefusal, idsRefusal}
 use Rattle.rules.specs.Verdicts.{tasksOf, systemOf}
+use Rattle.rules.specs.Written.{idsOf}
 use Rattle.theory.specs.Replies.{verdict-one}
 use Rattle.theory.specs.Responses.{worst-one}
 use Rattle.theory.specs.ScheduleReplies.{writes-one}
-use Rattle.boundary.specs.Packed.{packed, packedSchedule}
-use Rattle.boundary.specs.Crossing.{bytesRefusal, HoldBytes, LeavesBytes, VerdictCrosses, ResponsesCross, ScheduleCrosses, AsRunCrosses}
+use Rattle.theory.specs.WriteReplies.{puts-one}
+use Rattle.boundary.specs.Packed.{packed, packedSchedule, packedWrite}
+use Rattle.boundary.specs.Crossing.{bytesRefusal, HoldBytes, LeavesBytes, VerdictCrosses, ResponsesCross, ScheduleCrosses, AsRunCrosses, IdsCross}
 
 pub verdict-once : {p a : ℕ} {s : Source} {r q : ℕ} → VerdictCrosses p a s r → VerdictCrosses p a s q → r ≡ q
 verdict-once {p} {a} {s} c d = c .crosses ∙ ap packed (verdict-one (verdictRefusal p s) (systemOf p s) (omax (tasksOf s)) (hyper (tasksOf s)) a (c .reply) (d .reply) (c .right) (d .right)) ∙ sym (d .crosses)
@@ -58,3 +60,8 @@ pub as-run-once : {p : ℕ} {s : Source} {xs zs before x z : List ℕ} {r q : �
 as-run-once {p} {s} {xs} {zs} {before} {x} {z} c d =
     let e = writes-one (slotsRefusal p (length before) s) (systemOf p s) (listed (systemOf p s) xs zs) before x z (c .reply) (d .reply) (c .right) (d .right) in
     (c .crosses ∙ ap packedSchedule (e .0) ∙ sym (d .crosses), e .1)
+
+pub ids-once : {s : Source} {before x z : List ℕ} {r q : ℕ} → IdsCross s before x r → IdsCross s before z q → (r ≡ q) × (x ≡ z)
+ids-once {s} {before} {x} {z} c d =
+    let e = puts-one (idsRefusal (length before) s) (length (s .rows)) (idsOf s) before x z (c .reply) (d .reply) (c .right) (d .right) in
+    (c .crosses ∙ ap packedWrite (e .0) ∙ sym (d .crosses), e .1)

@@ -9,12 +9,14 @@ use Rattle.rules.specs.declared.Refusal.{Refusal}
 use Rattle.rules.specs.declared.Verdict.{Verdict}
 use Rattle.rules.specs.declared.Verdict.the-variants.{Accepted, Missed, Undecided, Refused}
 use Rattle.rules.specs.declared.ScheduleReply.{ScheduleReply}
+use Rattle.rules.specs.declared.WriteReply.{WriteReply}
 use Rattle.rules.specs.Sources.{Source}
 use Rattle.rules.specs.Checks.{refusalFor}
 use Rattle.rules.specs.Policies.{System}
 use Rattle.rules.specs.Verdicts.{systemOf, DecidesOf, Replies, VerdictIs, Worst}
 use Rattle.rules.specs.Schedules.{ScheduleIs, AsRunIs}
-use Rattle.boundary.specs.Packed.{packed, packedSchedule}
+use Rattle.rules.specs.Written.{IdsAre}
+use Rattle.boundary.specs.Packed.{packed, packedSchedule, packedWrite}
 use Rattle.boundary.specs.Bytes.{fourOf}
 
 -- VERDICT: r is the number of a reply that the rules give
@@ -61,3 +63,9 @@ pub record AsRunCrosses (p : ℕ) (s : Source) (xs zs before after : List ℕ) (
   pub reply : ScheduleReply
   pub right : AsRunIs p s xs zs before after reply
   pub crosses : r ≡ packedSchedule reply
+
+-- IDS: likewise
+pub record IdsCross (s : Source) (before after : List ℕ) (r : ℕ) : Type 0 where
+  pub reply : WriteReply
+  pub right : IdsAre s before after reply
+  pub crosses : r ≡ packedWrite reply

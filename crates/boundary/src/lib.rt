@@ -1,7 +1,7 @@
-// The C boundary: the four replies of the checker as thin extern "C" functions over numbers and slices. Any arguments have a reply:
+// The C boundary: the replies of the checker as thin extern "C" functions over numbers and slices. Any arguments have a reply:
 // no function here requires anything. host/ottersprawl.h declares them for C.
 ghost use Rattle.rules.specs.Sources.{textSource};
-ghost use Rattle.boundary.specs.Crossing.{VerdictCrosses, ResponsesCross, ScheduleCrosses, AsRunCrosses};
+ghost use Rattle.boundary.specs.Crossing.{VerdictCrosses, ResponsesCross, ScheduleCrosses, AsRunCrosses, IdsCross};
 
 mod little;
 mod pack;
@@ -17,8 +17,8 @@ pub extern "C" fn otter_verdict(policy: u32, allowance: u64, text: &[u8]) -> u64
     pack::verdict(checker::verdict(policy, allowance, text))
 }
 
-// The verdict; if it is accepted, the lent bytes hold the worst responses in ascending id, four bytes each. They are read as sixteen
-// numbers, which are lent to the checker and written back, so that bytes of rows that are not there stay.
+// The verdict; if it is accepted, the lent bytes hold the worst responses in ascending id, four bytes each. The checker is lent numbers
+// of our own, and only then are they written: a contract sees values and not stores, but memory that may not be written to does.
 #[no_mangle]
 pub extern "C" fn otter_responses(
     policy: u32,
@@ -34,10 +34,13 @@ pub extern "C" fn otter_responses(
     if responses.len() < RESPONSES_LEN {
         return pack::refused(table::BUFFER_WRONG);
     }
+    let source = csv::read_rows(text);
     let mut numbers = [0u32; 16];
-    little::read(responses, &mut numbers);
-    let v = checker::responses(policy, allowance, text, &mut numbers);
-    little::write(&numbers, responses);
+    let v = checker::responses_of(policy, allowance, source, &mut numbers);
+    if checker::accepted(v) {
+        little::write(source.count, &numbers, responses);
+        return pack::verdict(v);
+    }
     pack::verdict(v)
 }
 
@@ -61,4 +64,12 @@ pub extern "C" fn otter_as_run(
     ensures { λ r. ⌜ AsRunCrosses policy (textSource (now (text .entry))) (now (requests .entry)) (now (loadings .entry)) (now (slots .entry)) (now (slots .exit)) r ⌝ }
 {
     pack::schedule(checker::as_run(policy, text, requests, loadings, slots))
+}
+
+// The ids in ascending order, a byte each, as the responses are.
+#[no_mangle]
+pub extern "C" fn otter_ids(text: &[u8], ids: &mut [u8]) -> u64
+    ensures { λ r. ⌜ IdsCross (textSource (now (text .entry))) (now (ids .entry)) (now (ids .exit)) r ⌝ }
+{
+    pack::write(checker::ids(text, ids))
 }

@@ -2,9 +2,10 @@
 ghost use mathlib.Core.Path.{_≡_};
 ghost use Prim.Native.Nat.{_<_};
 ghost use Rattle.rules.specs.declared.Verdict.the-variants.{Refused};
-ghost use Rattle.boundary.specs.Packed.{packedMiss, packedRefusal, packed, packedSchedule, SmallMiss, SmallRefusal, Small, SmallSchedule};
+ghost use Rattle.boundary.specs.Packed.{packedMiss, packedRefusal, packed, packedSchedule, packedWrite, SmallMiss, SmallRefusal, Small, SmallSchedule, SmallWrite};
 use rules::ScheduleReply;
 use rules::Verdict;
+use rules::WriteReply;
 
 // The kinds of a reply.
 const ACCEPTED: u64 = 1;
@@ -17,8 +18,10 @@ const REFUSED: u64 = 4;
 
 const FILLED: u64 = 5;
 
+const WRITTEN: u64 = 6;
+
 // Room for a kind, for an id and for the number of a refusal.
-const KINDS: u64 = 8;
+const KINDS: u64 = 16;
 
 const IDS: u64 = 256;
 
@@ -66,5 +69,15 @@ pub fn schedule(v: ScheduleReply) -> u64
         ScheduleReply::Filled => FILLED,
         ScheduleReply::Missed { time, id } => missed(time, id),
         ScheduleReply::Refused { number, place } => refusal(number, place),
+    }
+}
+
+pub fn write(v: WriteReply) -> u64
+    requires { ⌜ SmallWrite v ⌝ }
+    ensures { λ r. ⌜ r ≡ packedWrite v ⌝ }
+{
+    match v {
+        WriteReply::Written(n) => n * KINDS + WRITTEN,
+        WriteReply::Refused { number, place } => refusal(number, place),
     }
 }

@@ -2,3 +2,4 @@ pub mod InHand
 pub mod Needed
 pub mod Replied
 pub mod Written
+pub mod Named

@@ -1,9 +1,10 @@
 -- What the functions that decide give. Means of proof.
 use mathlib.Core.Path.{_≡_}
 use mathlib.Core.Bool.{Bool, true, false}
-use mathlib.Core.List.{List}
+use mathlib.Core.List.{List, map}
 use Prim.Native.Nat.{ℕ, _<_}
 use lib.ListN.{getD, drop, length}
+use Rattle.rules.specs.declared.Row.{Row}
 use Rattle.rules.specs.declared.Table.{Table}
 use Rattle.rules.specs.declared.Verdict.{Verdict}
 use Rattle.rules.specs.declared.Verdict.the-variants.{Accepted, Missed, Undecided, Refused}
@@ -28,3 +29,7 @@ pub record Wrote (rows : ℕ) (numbers before after : List ℕ) : Type 0 where
   pub size : length after ≡ length before
   pub worst : (i : ℕ) → i < rows → getD after i 0 ≡ getD numbers i 0
   pub rest : drop rows after ≡ drop rows before
+
+-- the ids of the table in hand
+abbrev pub idsIn : Table → List ℕ
+idsIn t = map (λ (w : Row). w .id) (live t)

@@ -1,13 +1,22 @@
-// The checker: verdict, responses, schedule and as run, the four replies of the product, each over whatever a reader hands over and over
-// a text. Whatever the input, each has a reply, and its contract is the definition of the rules. The C boundary and the programs use it.
+// The checker: verdict, responses, schedule and as run, the four replies of the product, and ids, each over whatever a reader hands over
+// and over a text. Whatever the input, each has a reply, and its contract is the definition of the rules. The C boundary and the
+// programs use it.
 ghost use Rattle.rules.specs.Sources.{textSource, sourceOf};
 ghost use Rattle.rules.specs.Verdicts.{VerdictIs, ResponsesAre};
 ghost use Rattle.rules.specs.Schedules.{ScheduleIs, AsRunIs};
+ghost use Rattle.rules.specs.Written.{IdsAre};
 use rules::RowsRead;
 use rules::ScheduleReply;
 use rules::Verdict;
+use rules::WriteReply;
 
 mod decide;
+mod labels;
+
+pub use decide::accepted;
+
+// Where no policy is asked: the checks are the same under each of the four.
+const ANY_POLICY: u32 = 1;
 
 // OF WHAT A READER HANDS OVER
 
@@ -32,7 +41,7 @@ pub fn verdict_of(policy: u32, allowance: u64, source: RowsRead) -> Verdict
 pub fn responses_of(policy: u32, allowance: u64, source: RowsRead, numbers: &mut [u32]) -> Verdict
     ensures { λ r. ⌜ ResponsesAre policy allowance (sourceOf source) (now (numbers .entry)) (now (numbers .exit)) r ⌝ }
 {
-    let g = table::check(policy, table::responses_wrong(numbers.len()), source);
+    let g = table::check(policy, table::too_few(numbers.len()), source);
     let f = g.refusal;
     if f.number != 0 {
         return Verdict::Refused {
@@ -93,6 +102,23 @@ pub fn schedule_of(policy: u32, source: RowsRead, slots: &mut [u8]) -> ScheduleR
     as_run_of(policy, source, &requests[..0], &loadings[..0], slots)
 }
 
+// Which ids the table has: as bytes in ascending order, as responses are.
+pub fn ids_of(source: RowsRead, ids: &mut [u8]) -> WriteReply
+    ensures { λ r. ⌜ IdsAre (sourceOf source) (now (ids .entry)) (now (ids .exit)) r ⌝ }
+{
+    let g = table::check(ANY_POLICY, table::too_few(ids.len()), source);
+    let f = g.refusal;
+    if f.number != 0 {
+        return WriteReply::Refused {
+            number: f.number,
+            place: f.place,
+        };
+    }
+    let t = g.table;
+    labels::write_ids(t, ids);
+    WriteReply::Written(t.count as u64)
+}
+
 // OF A TEXT
 
 pub fn verdict(policy: u32, allowance: u64, text: &[u8]) -> Verdict
@@ -123,4 +149,10 @@ pub fn schedule(policy: u32, text: &[u8], slots: &mut [u8]) -> ScheduleReply
     ensures { λ r. ⌜ ScheduleIs policy (textSource (now (text .entry))) (now (slots .entry)) (now (slots .exit)) r ⌝ }
 {
     schedule_of(policy, csv::read_rows(text), slots)
+}
+
+pub fn ids(text: &[u8], ids: &mut [u8]) -> WriteReply
+    ensures { λ r. ⌜ IdsAre (textSource (now (text .entry))) (now (ids .entry)) (now (ids .exit)) r ⌝ }
+{
+    ids_of(csv::read_rows(text), ids)
 }

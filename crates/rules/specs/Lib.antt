@@ -8,5 +8,6 @@ pub mod Slots
 pub mod Decided
 pub mod AsRun
 pub mod Verdicts
+pub mod Written
 pub mod Schedules
 pub mod Demands

@@ -18,6 +18,7 @@ pub mod Demand3
 pub mod AsRun
 pub mod Replies
 pub mod ScheduleReplies
+pub mod WriteReplies
 pub mod Counters
 pub mod Jump
 pub mod Completions

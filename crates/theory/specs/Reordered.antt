@@ -1,7 +1,7 @@
 -- Sources that are read as the same table get the same replies: a reply to the one is a reply to the other (`verdict-to` and so on),
 -- and two replies that meet a contract are equal, with what they leave in lent memory (`verdict-same` and so on). With `perm-alike` this
 -- is "Reordering the rows changes no reply", of whatever was read; `Texts` has it of texts.
-use mathlib.Core.Path.{_≡_, subst}
+use mathlib.Core.Path.{_≡_, sym, ap, subst, _∙_}
 use mathlib.Core.List.{List}
 use Prim.Native.Nat.{ℕ}
 use lib.ListN.{length}
@@ -9,19 +9,23 @@ use Rattle.rules.specs.declared.Row.{Row}
 use Rattle.rules.specs.declared.Refusal.{Refusal}
 use Rattle.rules.specs.declared.Verdict.{Verdict}
 use Rattle.rules.specs.declared.ScheduleReply.{ScheduleReply}
+use Rattle.rules.specs.declared.WriteReply.{WriteReply}
 use Rattle.rules.specs.Table.{omax, hyper}
 use Rattle.rules.specs.Sources.{Source}
-use Rattle.rules.specs.Checks.{check, refusalOf, policyWrong, responsesWrong, slotsWrong, slotsRefusal}
+use Rattle.rules.specs.Checks.{check, refusalOf, policyWrong, tooFew, slotsWrong, slotsRefusal, idsRefusal}
 use Rattle.rules.specs.Policies.{System, policy, system}
 use Rattle.rules.specs.Slots.{Choice, stated}
 use Rattle.rules.specs.AsRun.{listed}
 use Rattle.rules.specs.Verdicts.{tasksOf, systemOf, Decides, DecidesOf, Replies, VerdictIs, Leaves, ResponsesAre}
 use Rattle.rules.specs.Schedules.{Writes, ScheduleIs, AsRunIs}
+use Rattle.rules.specs.Written.{Puts, idsOf, IdsAre}
 use Rattle.basics.specs.Cases.{eq-case}
 use Rattle.reordering.specs.Passed.{check-none, lent-none}
+use Rattle.reordering.specs.Canonical.{canonical-length}
 use Rattle.reordering.specs.Alike.{Alike}
 use Rattle.theory.specs.Replies.{verdict-one, responses-one}
 use Rattle.theory.specs.ScheduleReplies.{writes-one}
+use Rattle.theory.specs.WriteReplies.{puts-one}
 
 module _ (s t : Source) (alike : Alike s t) where
   -- A REPLY TO s IS ONE TO t, where it is refused alike
@@ -43,9 +47,9 @@ module _ (s t : Source) (alike : Alike s t) where
 
   pub responses-to : (p a : ℕ) (before after : List ℕ) (r : Verdict) → ResponsesAre p a s before after r → ResponsesAre p a t before after r
   responses-to p a before after r u = record {
-    reply = subst (λ (g : Refusal). Replies (check 1 (policyWrong p) (check 2 (responsesWrong (length before)) g)) (DecidesOf p a t) r) (alike .refusal)
-        (replies _ p a r (λ e. lent-none p (responsesWrong (length before)) s e .1) (u .reply));
-    buffer = leaves _ p a r before after (λ e. lent-none p (responsesWrong (length before)) s e .1) (u .reply) (u .buffer);
+    reply = subst (λ (g : Refusal). Replies (check 1 (policyWrong p) (check 2 (tooFew (length before)) g)) (DecidesOf p a t) r) (alike .refusal)
+        (replies _ p a r (λ e. lent-none p (tooFew (length before)) s e .1) (u .reply));
+    buffer = leaves _ p a r before after (λ e. lent-none p (tooFew (length before)) s e .1) (u .reply) (u .buffer);
   }
 
   -- schedule and as run, whose choices are made of the system
@@ -65,6 +69,17 @@ module _ (s t : Source) (alike : Alike s t) where
   pub schedule-to : (p : ℕ) (before after : List ℕ) (r : ScheduleReply) → ScheduleIs p s before after r → ScheduleIs p t before after r
   schedule-to = slots-to stated
 
+  -- ids, of as many rows as there are tasks
+  pub ids-to : (before after : List ℕ) (r : WriteReply) → IdsAre s before after r → IdsAre t before after r
+  ids-to before after r u =
+      subst (λ (g : Refusal). Puts (check 2 (tooFew (length before)) g) (length (t .rows)) (idsOf t) before after r) (alike .refusal) (record {
+        refused = u .refused;
+        written = λ e.
+            let same = alike .tasks (check-none 1 (tooFew (length before)) (refusalOf s) e .1) in
+            let rows : length (s .rows) ≡ length (t .rows) = sym (canonical-length (s .rows)) ∙ ap (λ (ws : List Row). length ws) same ∙ canonical-length (t .rows) in
+            rw (rows, same) at (u .written e);
+      })
+
   -- SO THE REPLIES ARE EQUAL, with what they leave in lent memory
   pub verdict-same : (p a : ℕ) (r q : Verdict) → VerdictIs p a s r → VerdictIs p a t q → r ≡ q
   verdict-same p a r q u v = verdict-one _ (systemOf p t) (omax (tasksOf t)) (hyper (tasksOf t)) a r q (verdict-to p a r u) v
@@ -77,3 +92,6 @@ module _ (s t : Source) (alike : Alike s t) where
 
   pub as-run-same : (xs zs : List ℕ) (p : ℕ) (before x z : List ℕ) (r q : ScheduleReply) → AsRunIs p s xs zs before x r → AsRunIs p t xs zs before z q → (r ≡ q) × (x ≡ z)
   as-run-same xs zs p before x z r q u v = writes-one _ (systemOf p t) (listed (systemOf p t) xs zs) before x z r q (as-run-to xs zs p before x r u) v
+
+  pub ids-same : (before x z : List ℕ) (r q : WriteReply) → IdsAre s before x r → IdsAre t before z q → (r ≡ q) × (x ≡ z)
+  ids-same before x z r q u v = puts-one (idsRefusal (length before) t) (length (t .rows)) (idsOf t) before x z r q (ids-to before x r u) v

@@ -1,12 +1,12 @@
 -- The demands, of sources: what holds of every text, or whatever else was read, that passes the checks, under every policy. Each
 -- theorem here is a sentence of demand 2 or 3; the laws behind them are those of the other files.
-use mathlib.Core.Path.{_≡_, ap}
+use mathlib.Core.Path.{_≡_, refl, ap}
 use mathlib.Core.Logic.{_≢_}
 use mathlib.Core.Bool.{false}
-use mathlib.Core.List.{List, [], _∷_}
-use Prim.Native.Nat.{ℕ, _^_, _≤_, _<_}
+use mathlib.Core.List.{List, [], _∷_, map}
+use Prim.Native.Nat.{ℕ, zero, suc, _^_, _≤_, _<_}
 use native.Mathlib.Omega.{arith}
-use lib.ListN.{length}
+use lib.ListN.{length, getD}
 use Rattle.rules.specs.declared.Row.{Row}
 use Rattle.rules.specs.declared.Verdict.{Verdict}
 use Rattle.rules.specs.declared.Verdict.the-variants.{Accepted, Undecided}
@@ -19,6 +19,7 @@ use Rattle.rules.specs.Decided.{missedAt, NeverMissed, SlotsNeeded}
 use Rattle.rules.specs.AsRun.{listed}
 use Rattle.rules.specs.Verdicts.{tasksOf, systemOf, missedId, plain, DecidesOf}
 use Rattle.rules.specs.Demands.{KeepsTime}
+use Rattle.rules.specs.Written.{idsOf}
 use Rattle.basics.specs.Cases.{eq-case}
 use Rattle.basics.specs.Lists.{any-default}
 use Rattle.reordering.specs.All.{All}
@@ -50,6 +51,15 @@ quick (w ∷ ws) h = (h .0 .resume-start, quick ws (h .1))
 pub valid-rows : (ws : List Row) → Passed ws → Valid ws
 valid-rows ws p = record { passes = record { rows = fits ws (p .fine); count = p .few; limit = p .hyper-high }; quick = quick ws (p .fine) }
 
+-- IDS: number i is that of the task which has number i among the responses, under every policy
+ids-at : (ws : List Row) (i : ℕ) → getD (map (λ (w : Row). w .id) ws) i 0 ≡ row ws i .id
+ids-at [] i = refl
+ids-at (w ∷ ws) zero = refl
+ids-at (w ∷ ws) (suc i) = ids-at ws i
+
+pub ids-label : (s : Source) (p i : ℕ) → getD (idsOf s) i 0 ≡ systemOf p s .row i .id
+ids-label s p i = ids-at (tasksOf s) i
+
 module _ (s : Source) (fine : refusalOf s .number ≡ 0) (p : ℕ) where
   rows-pass : Passed (tasksOf s)
   rows-pass = passed-canonical (s .rows) (passed s fine .1)
@@ -74,15 +84,17 @@ module _ (s : Source) (fine : refusalOf s .number ≡ 0) (p : ℕ) where
   accepts a enough never = never-accepted (systemOf p s) (omax (tasksOf s)) (hyper (tasksOf s)) a
       (number .0, number .1, omega (arith, number .2)) never
 
-  -- "lowest id on a tie"
-  ids : (i j : ℕ) → i ≤ j → j < length (tasksOf s) → row (tasksOf s) i .id ≤ row (tasksOf s) j .id
-  ids i j low high = eq-case i j
-      (λ e. rw e (omega arith))
-      (λ e.
-      let less = ids-rise (s .rows) (passed s fine .1) i j (omega arith) (omega (arith, canonical-length (s .rows))) in
+  -- "the ids in ascending order"
+  pub ids-ascend : (i j : ℕ) → i < j → j < length (tasksOf s) → row (tasksOf s) i .id < row (tasksOf s) j .id
+  ids-ascend i j low high =
+      let less = ids-rise (s .rows) (passed s fine .1) i j low (omega (arith, canonical-length (s .rows))) in
       let a = ap (λ (w : Row). w .id) (any-default (tasksOf s) i blank noRow (omega arith)) in
       let b = ap (λ (w : Row). w .id) (any-default (tasksOf s) j blank noRow high) in
-      omega (arith, less, a, b))
+      omega (arith, less, a, b)
+
+  -- "lowest id on a tie"
+  ids : (i j : ℕ) → i ≤ j → j < length (tasksOf s) → row (tasksOf s) i .id ≤ row (tasksOf s) j .id
+  ids i j low high = eq-case i j (λ e. rw e (omega arith)) (λ e. omega (arith, ids-ascend i j (omega arith) high))
 
   pub smallest-missed : (t : ℕ) → missedAt (systemOf p s) (stated (systemOf p s)) t ≢ 0 → (i : ℕ) → i < length (tasksOf s)
       → onTime (systemOf p s) t (run (systemOf p s) (stated (systemOf p s)) t) i ≡ false

@@ -7,14 +7,16 @@ use borrow.Author.Tests.{le-leb}
 use lib.ListN.{length}
 use Rattle.rules.specs.declared.Verdict.{Verdict}
 use Rattle.rules.specs.declared.ScheduleReply.{ScheduleReply}
+use Rattle.rules.specs.declared.WriteReply.{WriteReply}
 use Rattle.rules.specs.Text.{badLine, rowsOf}
 use Rattle.rules.specs.Sources.{given, textSource}
 use Rattle.rules.specs.Verdicts.{VerdictIs, ResponsesAre}
 use Rattle.rules.specs.Schedules.{ScheduleIs, AsRunIs}
+use Rattle.rules.specs.Written.{IdsAre}
 use Rattle.reordering.specs.Permutations.{Perm}
 use Rattle.reordering.specs.Alike.{Alike}
 use Rattle.reordering.specs.Reordering.{perm-alike}
-use Rattle.theory.specs.Reordered.{verdict-same, responses-same, schedule-same, as-run-same}
+use Rattle.theory.specs.Reordered.{verdict-same, responses-same, schedule-same, as-run-same, ids-same}
 
 well-formed : (s : List ℕ) → length s ≤ 4096 → badLine s ≡ 0 → textSource s ≡ given (rowsOf s)
 unfolding textSource
@@ -38,3 +40,6 @@ module _ (s t : List ℕ) (short : length s ≤ 4096) (also : length t ≤ 4096)
   pub as-run-order : (xs zs : List ℕ) (p : ℕ) (before x z : List ℕ) (r q : ScheduleReply)
       → AsRunIs p (textSource s) xs zs before x r → AsRunIs p (textSource t) xs zs before z q → (r ≡ q) × (x ≡ z)
   as-run-order = as-run-same (textSource s) (textSource t) alike
+
+  pub ids-order : (before x z : List ℕ) (r q : WriteReply) → IdsAre (textSource s) before x r → IdsAre (textSource t) before z q → (r ≡ q) × (x ≡ z)
+  ids-order = ids-same (textSource s) (textSource t) alike

@@ -6,6 +6,7 @@
 //     responses POLICY ALLOWANCE LENGTH    lends LENGTH numbers, each 777
 //     schedule POLICY LENGTH               lends LENGTH bytes, each 170
 //     as_run POLICY LENGTH                 the same
+//     ids LENGTH                           the same
 //
 // The crate cases says how a text is written. A slot is written as its id and a letter for its kind: i idle, l loading,
 // e executing, m from the miss on, ? for a byte that is no kind. Where not every slot is written, or the length is odd, a sum
@@ -19,17 +20,30 @@ use cases::word;
 use libc::STDIN_FILENO;
 use rules::ScheduleReply;
 use rules::Verdict;
+use rules::WriteReply;
 
 // Numbers in a part of a line.
 const NUMBERS: usize = 64;
 
 // The longest buffers that are lent.
-const MOST_RESPONSES: usize = 17;
+const MOST_ROWS: usize = 17;
 
 const MOST_BYTES: usize = 65_538;
 
 // Slots that are written one by one.
 const SHOWN: usize = 48;
+
+fn put_missed(time: u64, id: u32) {
+    word(b" missed");
+    put(time);
+    put(id as u64);
+}
+
+fn put_refused(number: u32, place: u64) {
+    word(b" refused");
+    put(number as u64);
+    put(place);
+}
 
 fn put_verdict(v: Verdict) {
     match v {
@@ -37,37 +51,27 @@ fn put_verdict(v: Verdict) {
             word(b" accepted");
             put(n);
         }
-        Verdict::Missed { time, id } => {
-            word(b" missed");
-            put(time);
-            put(id as u64);
-        }
-        Verdict::Undecided => {
-            word(b" undecided");
-        }
-        Verdict::Refused { number, place } => {
-            word(b" refused");
-            put(number as u64);
-            put(place);
-        }
+        Verdict::Missed { time, id } => put_missed(time, id),
+        Verdict::Undecided => word(b" undecided"),
+        Verdict::Refused { number, place } => put_refused(number, place),
     }
 }
 
 fn put_reply(r: ScheduleReply) {
     match r {
-        ScheduleReply::Filled => {
-            word(b" filled");
+        ScheduleReply::Filled => word(b" filled"),
+        ScheduleReply::Missed { time, id } => put_missed(time, id),
+        ScheduleReply::Refused { number, place } => put_refused(number, place),
+    }
+}
+
+fn put_written(r: WriteReply) {
+    match r {
+        WriteReply::Written(n) => {
+            word(b" written");
+            put(n);
         }
-        ScheduleReply::Missed { time, id } => {
-            word(b" missed");
-            put(time);
-            put(id as u64);
-        }
-        ScheduleReply::Refused { number, place } => {
-            word(b" refused");
-            put(number as u64);
-            put(place);
-        }
+        WriteReply::Refused { number, place } => put_refused(number, place),
     }
 }
 
@@ -139,6 +143,19 @@ fn put_numbers(numbers: &[u32]) {
     }
 }
 
+fn put_id(id: u8) {
+    put(id as u64);
+}
+
+fn put_ids(ids: &[u8]) {
+    word(b":");
+    let mut i: usize = 0;
+    while i < ids.len() {
+        put_id(ids[i]);
+        i += 1;
+    }
+}
+
 fn narrow(x: u64) -> u32 {
     if x < 4_294_967_296 {
         return x as u32;
@@ -155,7 +172,7 @@ fn responses_in(policy: u32, allowance: u64, text: &[u8], numbers: &mut [u32]) {
 
 fn responses(policy: u32, allowance: u64, text: &[u8], length: u64) {
     let mut numbers = [777u32; 17];
-    let n = fitting(length as usize, MOST_RESPONSES);
+    let n = fitting(length as usize, MOST_ROWS);
     responses_in(policy, allowance, text, &mut numbers[..n]);
 }
 
@@ -179,6 +196,17 @@ fn as_run(policy: u32, text: &[u8], length: u64, requests: &[u32], loadings: &[u
     let mut slots = [170u8; 65538];
     let n = fitting(length as usize, MOST_BYTES);
     as_run_in(policy, text, requests, loadings, &mut slots[..n]);
+}
+
+fn ids_in(text: &[u8], ids: &mut [u8]) {
+    put_written(checker::ids(text, ids));
+    put_ids(ids);
+}
+
+fn ids(text: &[u8], length: u64) {
+    let mut bytes = [170u8; 17];
+    let n = fitting(length as usize, MOST_ROWS);
+    ids_in(text, &mut bytes[..n]);
 }
 
 // NUMBERS, with one blank between
@@ -293,6 +321,7 @@ fn answer(kind: u8, call: [u64; 64], text: &[u8], input: &[u8]) {
         b'r' => responses(policy, call[2], text, call[3]),
         b's' => schedule(policy, text, call[2]),
         b'a' => as_run_of(policy, call[2], text, input),
+        b'i' => ids(text, call[1]),
         _ => word(b" no call"),
     }
 }

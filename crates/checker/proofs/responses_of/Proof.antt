@@ -18,8 +18,8 @@ use Rattle.checker.proofs.responses_of.Tie as tie
 sixteen : (c : tie.Start) → length (c .args .source .rows) ≡ 16
 sixteen c = simp length-map at (c .good .1 .1 .0 .1 .1 .0 .1 .0 .1)
 
-responses-wrong-requires : tie.Need-responses-wrong-requires
-responses-wrong-requires c κs = search needs
+too-few-requires : tie.Need-too-few-requires
+too-few-requires c κs = search needs
 
 check-requires : tie.Need-check-requires
 check-requires c κs = search needs
@@ -27,7 +27,7 @@ check-requires c κs = search needs
 returns : tie.Need-returns
 returns c =
     let a = c .before .before .before in
-    let e = rw (a .before .responses-wrong .ensures) at (a .check .ensures) in
+    let e = rw (a .before .too-few .ensures) at (a .check .ensures) in
     record { reply = given (refusal-in _ _ _ e) (c .if1 .taken) _; buffer = refl }
 
 decide-requires : tie.Need-decide-requires
@@ -43,7 +43,7 @@ write-worst-requires c κs =
     let fine = c .before .before .before .before .before .before in
     let a = fine .before .before .before in
     let start = a .before .before .before in
-    let e = rw (a .before .responses-wrong .ensures) at (a .check .ensures) in
+    let e = rw (a .before .too-few .ensures) at (a .check .ensures) in
     let few = count-top (a .check .result .table) (sound-in _ _ _ e (fine .if1 .left) (sixteen start)) in
     omega (arith, ltb-false, fit-in _ _ _ e (fine .if1 .left))
 
@@ -55,7 +55,7 @@ returns-2 c =
     let fine = c .before .before .before .before .before .before .before .before .before in
     let a = fine .before .before .before in
     let start = a .before .before .before in
-    let e = rw (a .before .responses-wrong .ensures) at (a .check .ensures) in
+    let e = rw (a .before .too-few .ensures) at (a .check .ensures) in
     let o = c .before .before .before .before .before .before .before .decide in
     record {
       reply = decided _ _ e (fine .if1 .left) (sixteen start) (o .ensures);
@@ -67,7 +67,7 @@ returns-3 c =
     let fine = c .before .before .before .before in
     let a = fine .before .before .before in
     let start = a .before .before .before in
-    let e = rw (a .before .responses-wrong .ensures) at (a .check .ensures) in
+    let e = rw (a .before .too-few .ensures) at (a .check .ensures) in
     let x = start .args in
     let o = c .before .before .decide in
     record {
@@ -79,7 +79,7 @@ pub responses-of-spec : {M : Type 1} → statement M
 responses-of-spec =
     tie.close
     (tie.spec
-    responses-wrong-requires
+    too-few-requires
     check-requires
     returns
     decide-requires

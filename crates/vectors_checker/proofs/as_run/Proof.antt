@@ -1,16 +1,8 @@
 -- `vectors_checker::as_run` lends what there is room for.
-use mathlib.Core.Path.{_≡_}
-use Prim.Native.Nat.{ℕ, _≤_}
-use lib.ListN.{length, take, replicate, length-replicate}
-use Rattle.csv.proofs.Fields.{part-count}
 use borrow.Author.Needs.{needs}
-use borrow.Author.Needs.{needs}
+use Rattle.vectors_checker.proofs.Parts.{some-of}
 use Rattle.vectors_checker.proofs.as_run.Statement.{statement}
 use Rattle.vectors_checker.proofs.as_run.Tie as tie
-
--- the first of equal numbers
-some-of : (n m a : ℕ) → n ≤ m → n ≡ length (take n (replicate m a))
-some-of n m a h = part-count n (replicate m a) (rw (length-replicate m a) h)
 
 fitting-requires : tie.Need-fitting-requires
 fitting-requires c κs = search needs

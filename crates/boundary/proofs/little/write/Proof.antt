@@ -8,10 +8,10 @@ use Rattle.boundary.proofs.little.write.Statement.{statement}
 use Rattle.boundary.proofs.little.write.Tie as tie
 
 abbrev Inv-loop : tie.InvT-loop
-Inv-loop numbers bytes₀ i₀ bytes i = Writing numbers bytes₀ bytes i
+Inv-loop count numbers bytes₀ i₀ bytes i = Writing count numbers bytes₀ bytes i
 
 abbrev μ-loop : tie.MeasureT-loop
-μ-loop numbers bytes₀ i₀ bytes i = 16 - i
+μ-loop count numbers bytes₀ i₀ bytes i = count - i
 
 loop-holds : tie.Need-loop-holds Inv-loop μ-loop
 unfolding bytesOf
@@ -36,13 +36,13 @@ loop-less : tie.Need-loop-less Inv-loop μ-loop
 loop-less c = omega arith
 
 loop-again : tie.Need-loop-again Inv-loop μ-loop
-loop-again c = let at = c .before .before .before .before .before .before .loop in let a = c .before .before .before .before .before .before .before .before .before in writing-turn (a .args .numbers .now) (a .args .bytes .now) (at .bytes) _ (at .i) (a .pre .0) (a .pre .1) (at .inv) (omega arith) (c .before .before .put .ensures)
+loop-again c = let at = c .before .before .before .before .before .before .loop in let a = c .before .before .before .before .before .before .before .before .before in writing-turn (a .args .count) (a .args .numbers .now) (a .args .bytes .now) (at .bytes) _ (at .i) (a .pre .1) (a .pre .2) (at .inv) (omega arith) (c .before .before .put .ensures)
 
 same-length : tie.Need-same-length Inv-loop μ-loop
 same-length c = omega arith
 
 returns : tie.Need-returns Inv-loop μ-loop
-returns c = let at = c .before .loop in let a = c .before .before .before .before in writing-done (a .args .numbers .now) (a .args .bytes .now) (at .bytes) (at .i) (a .pre .0) (at .inv) (omega arith)
+returns c = let at = c .before .loop in let a = c .before .before .before .before in writing-done (a .args .count) (a .args .numbers .now) (a .args .bytes .now) (at .bytes) (at .i) (at .inv) (omega arith)
 
 pub write-spec : {M : Type 1} → statement M
 write-spec =
