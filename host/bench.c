@@ -5,6 +5,9 @@
  * replies have to agree.
  *
  *     bench
+ *     bench --once N    one verdict of table N, from 1, in each column, and
+ *                       nothing timed: for a tool that counts instructions
+ *                       (host/instructions.sh)
  */
 #define _POSIX_C_SOURCE 199309L
 
@@ -14,6 +17,7 @@
 
 #include <inttypes.h>
 #include <stdio.h>
+#include <stdlib.h>
 #include <string.h>
 #include <time.h>
 
@@ -298,8 +302,26 @@ static void bench_keystroke(const struct bench_table *table)
            all_events, ns[OTTER] / 1e3, ns[REFERENCE] / 1e3, ns[EVENT] / 1e3);
 }
 
-int main(void)
+/* ---- The program ---- */
+
+/* Fails where there is no such table. */
+static int call_once(unsigned long number)
 {
+    struct text text;
+    if (number < 1 || number > TABLES)
+        return EXIT_FAILURE;
+    const struct bench_table *table = &tables[number - 1];
+    write_text(&text, table->rows, table->count, plain_writing);
+    for (int column = 0; column < COLUMNS; column++)
+        verdict_of(column)(table->policy, allowance, text.bytes, text.length);
+    printf("%s\n", table->name);
+    return EXIT_SUCCESS;
+}
+
+int main(int argc, char **argv)
+{
+    if (argc == 3 && strcmp(argv[1], "--once") == 0)
+        return call_once(strtoul(argv[2], NULL, 10));
     print_heading();
     for (size_t i = 0; i < TABLES; i++)
         bench(&tables[i]);

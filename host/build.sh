@@ -6,10 +6,11 @@
 # LIB      the static library that exports the otter_ functions
 # OUT      where the programs go (build/ beside this script if not given)
 # LDLIBS   what else the library has to be linked with
-# PROGRAM  worked, compare, test1, show, bench: all of them if none is named
+# PROGRAM  worked, compare, untouched, stack, test1, show, bench, slowest: all
+#          of them if none is named
 #
-# Before anything else the header is compiled alone, as C99 and as C++, where
-# a warning is an error.
+# Before anything else the header alone and the smallest host are compiled, as
+# C99 and, where the compiler can, as C++; a warning is an error there.
 #
 # The library is x86-64 code. On another machine the programs are built for
 # x86-64 too, and statically, so that an emulator needs nothing else.
@@ -17,12 +18,15 @@ set -eu
 
 here=$(cd "$(dirname "$0")" && pwd)
 out=${OUT:-$here/build}
-flags='-O2 -std=c99 -Wall -Wextra -pedantic'
+warnings='-Wall -Wextra -pedantic'
+flags="-O2 -std=c99 $warnings"
+static=''
 
 if [ -z "${LIB:-}" ] || [ ! -f "$LIB" ]; then
     echo "host/build.sh: LIB has to name the checker's static library" >&2
     exit 1
 fi
+library=$(cd "$(dirname "$LIB")" && pwd)/$(basename "$LIB")
 
 # The compiler, installed if it is missing and we may, else named.
 need() {
@@ -40,7 +44,7 @@ if [ "$(uname -m)" = x86_64 ]; then
     need gcc gcc
 else
     compiler=x86_64-linux-gnu-gcc
-    flags="$flags -static"
+    static=-static
     need x86_64-linux-gnu-gcc gcc-x86-64-linux-gnu
 fi
 
@@ -48,9 +52,12 @@ sources_of() {
     case $1 in
     worked) echo worked.c event.c sides.c tables.c reference.c ;;
     compare) echo compare.c random.c event.c sides.c tables.c reference.c ;;
+    untouched) echo untouched.c sides.c tables.c reference.c ;;
+    stack) echo stack.c sides.c tables.c reference.c -pthread ;;
     show) echo show.c ;;
     test1) echo test1.c tables.c reference.c ;;
     bench) echo bench.c event.c sides.c tables.c reference.c ;;
+    slowest) echo slowest.c random.c tables.c reference.c ;;
     *)
         echo "host/build.sh: no program $1" >&2
         exit 1
@@ -61,25 +68,30 @@ sources_of() {
 build() {
     sources=$(sources_of "$1")
     (
-        library=$(cd "$(dirname "$LIB")" && pwd)/$(basename "$LIB")
         cd "$here"
         # shellcheck disable=SC2086 # flags and sources are lists of words
-        $compiler $flags $sources "$library" ${LDLIBS:-} -o "$out/$1"
+        $compiler $flags $static $sources "$library" ${LDLIBS:-} -o "$out/$1"
     )
 }
 
-header() {
-    echo '#include "ottersprawl.h"' |
-        $compiler -I"$here" -Wall -Wextra -pedantic -Werror -fsyntax-only "$@" -
+# small_host PROGRAM OPTION ..
+small_host() {
+    program=$1
+    shift
+    # shellcheck disable=SC2086 # warnings are a list of words
+    {
+        echo '#include "ottersprawl.h"' | $compiler -I"$here" $warnings -Werror -fsyntax-only "$@" -
+        $compiler $warnings -Werror $static "$@" "$here/smallest.c" -x none "$library" ${LDLIBS:-} -o "$out/$program"
+    }
 }
 
-header -x c -std=c99
-if $compiler -x c++ -fsyntax-only /dev/null 2>/dev/null; then
-    header -x c++
-fi
 mkdir -p "$out"
 out=$(cd "$out" && pwd)
-[ $# -gt 0 ] || set -- worked compare test1 show bench
+small_host smallest -x c -std=c99
+if $compiler -x c++ -fsyntax-only /dev/null 2>/dev/null; then
+    small_host smallest-c++ -x c++
+fi
+[ $# -gt 0 ] || set -- worked compare untouched stack test1 show bench slowest
 for program in "$@"; do
     build "$program"
 done

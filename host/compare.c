@@ -34,16 +34,12 @@ enum {
 
 /* ---- A call ---- */
 
-enum function { VERDICT, RESPONSES, SCHEDULE, AS_RUN, FUNCTIONS };
-
-static const char *const function_names[FUNCTIONS] = { "verdict", "responses", "schedule", "as_run" };
-
 struct numbers {
     uint32_t entries[LIST_MOST];
     size_t length;
 };
 
-/* The arguments of a call; those that its function does not have are 0. */
+/* A call but for the lent memory, which each side gets anew. */
 struct call {
     enum function function;
     uint32_t policy;
@@ -72,32 +68,27 @@ static size_t arena_used(const struct call *call)
 
 static struct ref_reply run_call(const struct side *side, const struct call *call, uint8_t *arena)
 {
-    const uint8_t *text = LENT(call->text->bytes, call->text->length);
-    size_t text_len = call->text->length;
-    uint8_t *lent = LENT(arena + GUARD, call->lent_len);
+    const struct arguments arguments = {
+        .policy = call->policy,
+        .allowance = call->allowance,
+        .text = LENT(call->text->bytes, call->text->length),
+        .text_len = call->text->length,
+        .requests = LENT(call->requests.entries, call->requests.length),
+        .requests_len = call->requests.length,
+        .loadings = LENT(call->loadings.entries, call->loadings.length),
+        .loadings_len = call->loadings.length,
+        .lent = LENT(arena + GUARD, call->lent_len),
+        .lent_len = call->lent_len
+    };
     memcpy(arena, pattern, arena_used(call));
-    switch (call->function) {
-    case VERDICT:
-        return side->verdict(call->policy, call->allowance, text, text_len);
-    case RESPONSES:
-        return side->responses(call->policy, call->allowance, text, text_len,
-                               lent, call->lent_len);
-    case SCHEDULE:
-        return side->schedule(call->policy, text, text_len, lent, call->lent_len);
-    default:
-        return side->as_run(call->policy, text, text_len,
-                            LENT(call->requests.entries, call->requests.length),
-                            call->requests.length,
-                            LENT(call->loadings.entries, call->loadings.length),
-                            call->loadings.length, lent, call->lent_len);
-    }
+    return reply_of(side, call->function, &arguments);
 }
 
 /* ---- What is counted and reported ---- */
 
 static struct {
     uint64_t calls;
-    uint64_t replies[FUNCTIONS][REF_FILLED + 1];
+    uint64_t replies[FUNCTIONS][REF_WRITTEN + 1];
     uint64_t refusals[REFUSALS + 1];
     uint64_t reordered;
     uint64_t late_repetitions;
@@ -108,7 +99,7 @@ static struct {
 static void count_reply(const struct call *call, struct ref_reply reply)
 {
     counts.calls++;
-    if (reply.kind <= REF_FILLED)
+    if (reply.kind <= REF_WRITTEN)
         counts.replies[call->function][reply.kind]++;
     if (reply.kind == REF_REFUSED && reply.number <= REFUSALS)
         counts.refusals[reply.number]++;
@@ -141,7 +132,9 @@ static void print_numbers(const char *name, const struct numbers *numbers)
 
 static void print_call(const struct call *call)
 {
-    printf("  %s, policy %" PRIu32, function_names[call->function], call->policy);
+    printf("  %s", function_names[call->function]);
+    if (call->function != IDS)
+        printf(", policy %" PRIu32, call->policy);
     if (call->function == VERDICT || call->function == RESPONSES)
         printf(", allowance %" PRIu64, call->allowance);
     if (call->function != VERDICT)
@@ -177,22 +170,42 @@ static void compare_event(const struct call *call, struct ref_reply expected)
         fail(call, "the event-driven verdict differs", expected, got);
 }
 
+/* The first so many lent bytes may change. Of responses these are the bytes of
+ * 16 rows: how many rows there are, their reply does not say. */
+static size_t may_change(const struct call *call, struct ref_reply reply)
+{
+    if (reply.kind == REF_REFUSED)
+        return 0;
+    switch (call->function) {
+    case RESPONSES:
+        return reply.kind == REF_ACCEPTED ? REF_RESPONSES_LEAST : 0;
+    case IDS:
+        return (size_t)reply.number;
+    default:
+        return call->lent_len;
+    }
+}
+
+/* Whether all other bytes of the arena are as before the call. */
+static int others_stay(const struct call *call, struct ref_reply reply, const uint8_t *arena)
+{
+    size_t behind = GUARD + may_change(call, reply);
+    return memcmp(pattern, arena, GUARD) == 0 &&
+           memcmp(pattern + behind, arena + behind, arena_used(call) - behind) == 0;
+}
+
 /* Both sides get the call; the reply of the checker is handed back. */
 static struct ref_reply compare_call(const struct call *call)
 {
     struct ref_reply expected = run_call(&reference_side, call, reference_arena);
     struct ref_reply got = run_call(&otter_side, call, otter_arena);
-    size_t used = arena_used(call);
     count_reply(call, got);
     if (!equal_replies(expected, got))
         fail(call, "the replies differ", expected, got);
-    else if (memcmp(reference_arena, otter_arena, used) != 0)
+    else if (!others_stay(call, expected, otter_arena))
+        fail(call, "bytes changed that have to stay", expected, got);
+    else if (memcmp(reference_arena, otter_arena, arena_used(call)) != 0)
         fail(call, "the lent bytes differ", expected, got);
-    if (got.kind == REF_REFUSED && memcmp(pattern, otter_arena, used) != 0)
-        fail(call, "a refused call changed a byte", expected, got);
-    if (memcmp(pattern, otter_arena, GUARD) != 0 ||
-        memcmp(pattern + used - GUARD, otter_arena + used - GUARD, GUARD) != 0)
-        fail(call, "bytes beside the lent ones changed", expected, got);
     if (try_event && call->function == VERDICT)
         compare_event(call, expected);
     return got;
@@ -350,8 +363,9 @@ static uint64_t first_bound(const struct call *call, uint64_t *least_accepted)
     return BOUND + table.omax + 2 * table.hyper_period;
 }
 
-/* A first verdict, then calls that lie around it. An allowance beyond the
- * bound is only given where both sides decide within it. */
+/* A first verdict, then calls that lie around it, of the functions that take a
+ * policy: those before IDS. An allowance beyond the bound is only given where
+ * both sides decide within it. */
 static void try_policy(struct random *random, const struct random_table *table,
                        const struct text *reordered)
 {
@@ -369,9 +383,25 @@ static void try_policy(struct random *random, const struct random_table *table,
     if (table_failed)
         return;
     for (uint32_t calls = random_between(random, 2, 6); calls > 0; calls--) {
-        random_call(random, &call, (enum function)random_below(random, FUNCTIONS), verdict, bound);
+        random_call(random, &call, (enum function)random_below(random, IDS), verdict, bound);
         check_run_of_accepted(&call, verdict, compare_call(&call));
         if (table->well_formed && random_chance(random, 25))
+            compare_reordered(&call, reordered);
+    }
+}
+
+/* Ids cost little, so every table is tried with too few bytes, with just
+ * enough and with more. */
+static void try_ids(struct random *random, const struct random_table *table,
+                    const struct text *reordered)
+{
+    const size_t lengths[] = { random_below(random, REF_IDS_LEAST), REF_IDS_LEAST,
+                               REF_IDS_LEAST + random_between(random, 1, 40) };
+    for (size_t i = 0; i < sizeof lengths / sizeof lengths[0]; i++) {
+        const struct call call = { .function = IDS, .text = &table->text,
+                                   .lent_len = lengths[i] };
+        compare_call(&call);
+        if (table->well_formed)
             compare_reordered(&call, reordered);
     }
 }
@@ -385,6 +415,7 @@ static void try_table(struct random *random)
         random_reordered(random, &table, &reordered);
     for (uint32_t policies = random_between(random, 1, 2); policies > 0; policies--)
         try_policy(random, &table, &reordered);
+    try_ids(random, &table, &reordered);
 }
 
 /* ---- The program ---- */
@@ -392,10 +423,10 @@ static void try_table(struct random *random)
 static void print_counts(void)
 {
     static const char *const kinds[] = { "no reply", "accepted", "missed", "undecided", "refused",
-                                         "filled" };
+                                         "filled", "written" };
     for (int function = 0; function < FUNCTIONS; function++) {
         printf("%s:", function_names[function]);
-        for (int kind = 0; kind <= REF_FILLED; kind++)
+        for (int kind = 0; kind <= REF_WRITTEN; kind++)
             if (counts.replies[function][kind] != 0)
                 printf("  %" PRIu64 " %s", counts.replies[function][kind], kinds[kind]);
         printf("\n");

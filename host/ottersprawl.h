@@ -3,8 +3,10 @@
  * controller panels. One processor, whole-number time, up to 16 periodic
  * tasks, four policies.
  *
- * Everything is in four functions. Each of them takes a task table as text
- * and returns one 64-bit reply, which the inline functions below take apart.
+ * Everything is in five functions: otter_verdict, otter_responses,
+ * otter_schedule, otter_as_run and otter_ids. Each of them takes a task table
+ * as text and returns one 64-bit reply, which the inline functions below take
+ * apart.
  *
  *     uint64_t reply = otter_verdict(4, 1000000, text, text_len);
  *     if (otter_kind(reply) == OTTER_MISSED)
@@ -12,7 +14,7 @@
  *                (unsigned)otter_place(reply),
  *                (unsigned long long)otter_number(reply));
  *
- * What holds for all four:
+ * What holds for all of them:
  *
  * - Any arguments get a reply and every call comes to an end. Nothing has to
  *   be checked before a call: a text that is half typed, damaged or far too
@@ -20,11 +22,12 @@
  * - The order of the rows never matters. Ties go to the smaller id.
  * - A pointer may be null where its length is 0. A pointer whose length is
  *   not 0 points to at least that many bytes (or numbers), and the memory
- *   written to (`responses`, `slots`) overlaps no other argument.
+ *   written to (`responses`, `slots`, `ids`) overlaps no other argument.
  * - They keep no state, allocate nothing, and use only the memory they are
  *   lent, until they return. They may be called from several threads at
  *   once, as long as no two calls are lent the same memory to write to.
- * - A refused call changes no byte of the memory it was lent.
+ * - A refused call stores nothing in the memory it was lent: that may even be
+ *   read-only. Nor does otter_responses unless the table is accepted.
  *
  * The table is CSV as in RFC 4180, its lines ended by CR LF (the last line's
  * ending may be left out), no zero byte at its end. Line 1 is exactly
@@ -32,7 +35,8 @@
  *     id,offset,wcet,deadline,period,start,resume,priority
  *
  * and every later line is one row of eight fields, each one to five decimal
- * digits, bare or in one pair of double quotes:
+ * digits with no leading zero (0 itself is one digit, 07 is ill-formed), bare
+ * or in one pair of double quotes:
  *
  *     id        1 to 255, different in every row
  *     offset    0 to 10,000: when the first job is released
@@ -52,6 +56,21 @@
  *     2  the smaller period
  *     3  the smaller deadline as written in the table
  *     4  the earlier point in time at which the job's deadline falls
+ *
+ * What a call costs, measured on one core of an x86-64 server:
+ *
+ * - Stack: at most 8,192 bytes (OTTER_STACK_MOST), whatever the arguments.
+ *   Nothing is allocated.
+ * - Reading the table: at most 10 microseconds, also where it is refused.
+ *   otter_ids costs no more than that.
+ * - Each slot up to the verdict or to the end of the lent slots: mostly less
+ *   than a nanosecond, since nothing is spent on a slot in which nothing
+ *   happens, and at most 70 ns. What costs most is many rows with short
+ *   periods, of which none divides the next, under policy 4: one release and
+ *   one completion in every slot, in no order that a processor could learn.
+ *   So plan with 100 ns for each slot of the allowance: 1,000,000 slots take
+ *   at most 0.1 s, 10,000,000 at most a second, and 2^48 may take months,
+ *   although tables that need more than 10,000,000 are rare.
  */
 #ifndef OTTERSPRAWL_H
 #define OTTERSPRAWL_H
@@ -69,7 +88,8 @@ enum otter_kind {
     OTTER_MISSED = 2,    /* a job misses its deadline */
     OTTER_UNDECIDED = 3, /* the allowance is too small to tell */
     OTTER_REFUSED = 4,   /* the arguments or the table are at fault */
-    OTTER_FILLED = 5     /* the slots are written and none of them is missed */
+    OTTER_FILLED = 5,    /* the slots are written and none of them is missed */
+    OTTER_WRITTEN = 6    /* what was asked for is written */
 };
 
 /*
@@ -101,17 +121,24 @@ enum otter_slot {
     OTTER_SLOT_MISSED = 3 /* at or after the time of a miss */
 };
 
-/* Bytes that otter_responses has to be lent, and the most that
- * otter_schedule and otter_as_run may be lent. */
+/* The most bytes of a text; bytes that otter_responses and otter_ids have to
+ * be lent; the most that otter_schedule and otter_as_run may be lent. */
+#define OTTER_TEXT_LEN_MOST 4096
 #define OTTER_RESPONSES_LEN 64
+#define OTTER_IDS_LEN 16
 #define OTTER_SLOTS_LEN_MOST 65536
+
+/* The allowance that decides every table, and the stack that a call may use. */
+#define OTTER_ALLOWANCE_DECIDES ((uint64_t)1 << 48)
+#define OTTER_STACK_MOST 8192
 
 /*
  * Does every job meet its deadline, for ever?
  *
  * policy     1 to 4, as above.
  * allowance  how many slots may be looked at. 2^48 always decides, but may
- *            take long: a panel's editor passes what it has time for.
+ *            take long: a panel's editor passes what it has time for (see
+ *            above, what a call costs).
  * text       the table, text_len bytes. It is only read.
  *
  * Replies:
@@ -119,7 +146,12 @@ enum otter_slot {
  *              needed to know it, at most the allowance.
  *   missed     the number is the time of the earliest missed deadline, the
  *              place is the id (the smallest, if several are missed then).
- *   undecided  the slots needed are more than the allowance.
+ *   undecided  the slots needed are more than the allowance. That is neither
+ *              good nor bad: the table is not at fault, and no deadline is
+ *              missed within the allowance. An editor says so, lets the user
+ *              go on, and asks again with a larger allowance when it is idle
+ *              or in another thread, until the table is decided or edited
+ *              (host/show.c does). The larger call begins anew.
  *   refused    the number says why (enum otter_refusal, not 2), the place
  *              where.
  */
@@ -127,7 +159,8 @@ uint64_t otter_verdict(uint32_t policy, uint64_t allowance,
                        const uint8_t *text, size_t text_len);
 
 /*
- * The verdict, and the worst response of every task.
+ * The verdict, and the worst response of every task. It includes the verdict,
+ * at the same cost: a host that shows both calls this function alone.
  *
  * policy, allowance, text, text_len  as for otter_verdict.
  * responses  at least 64 bytes; fewer are refusal 2. If the table is
@@ -190,23 +223,40 @@ uint64_t otter_as_run(uint32_t policy, const uint8_t *text, size_t text_len,
                       const uint32_t *loadings, size_t loadings_len,
                       uint8_t *slots, size_t slots_len);
 
+/*
+ * The ids of the table in ascending order: which task each response is of.
+ *
+ * text, text_len  as for otter_verdict.
+ * ids  at least 16 bytes; fewer are refusal 2. Unless refused, one byte for
+ *      each row is written: byte i is the id of the task whose response is
+ *      otter_response(responses, i). Bytes past them stay as they were.
+ *
+ * Replies:
+ *   written  the number is how many rows the table has, 1 to 16.
+ *   refused  as for otter_verdict (not 1: no policy is asked), and refusal 2.
+ */
+uint64_t otter_ids(const uint8_t *text, size_t text_len,
+                   uint8_t *ids, size_t ids_len);
+
 /* The kind of a reply. */
 static inline enum otter_kind otter_kind(uint64_t reply)
 {
-    return (enum otter_kind)(reply % 8);
+    return (enum otter_kind)(reply % 16);
 }
 
 /* The number of a reply: the slots needed if accepted, the time of the miss
- * if missed, the number of the refusal if refused, else 0. */
+ * if missed, the number of the refusal if refused, the rows if written, else
+ * 0. */
 static inline uint64_t otter_number(uint64_t reply)
 {
     switch (otter_kind(reply)) {
     case OTTER_ACCEPTED:
-        return reply / 8;
+    case OTTER_WRITTEN:
+        return reply / 16;
     case OTTER_MISSED:
-        return reply / 2048;
+        return reply / 4096;
     case OTTER_REFUSED:
-        return reply / 8 % 32;
+        return reply / 16 % 32;
     default:
         return 0;
     }
@@ -218,9 +268,9 @@ static inline uint32_t otter_place(uint64_t reply)
 {
     switch (otter_kind(reply)) {
     case OTTER_MISSED:
-        return (uint32_t)(reply / 8 % 256);
+        return (uint32_t)(reply / 16 % 256);
     case OTTER_REFUSED:
-        return (uint32_t)(reply / 256);
+        return (uint32_t)(reply / 512);
     default:
         return 0;
     }
@@ -233,6 +283,13 @@ static inline uint32_t otter_response(const uint8_t *responses, size_t index)
     const uint8_t *bytes = responses + 4 * index;
     return (uint32_t)bytes[0] | (uint32_t)bytes[1] << 8 |
            (uint32_t)bytes[2] << 16 | (uint32_t)bytes[3] << 24;
+}
+
+/* Whether the place of a refusal is an id, for the number of a refused reply.
+ * (It is a line for OTTER_REFUSAL_LINE, and else there is none.) */
+static inline int otter_place_is_id(uint64_t number)
+{
+    return number >= OTTER_REFUSAL_ID && number <= OTTER_REFUSAL_RESUME;
 }
 
 /* A refusal in words, for the number of a refused reply. */

@@ -21,7 +21,8 @@ enum {
     REF_DIGITS_MOST = 5,
     REF_SLOTS_MOST = 65536,
     REF_RESPONSE_BYTES = 4,
-    REF_RESPONSES_LEAST = REF_ROWS_MOST * REF_RESPONSE_BYTES
+    REF_RESPONSES_LEAST = REF_ROWS_MOST * REF_RESPONSE_BYTES,
+    REF_IDS_LEAST = REF_ROWS_MOST
 };
 
 enum ref_kind {
@@ -29,11 +30,12 @@ enum ref_kind {
     REF_MISSED,
     REF_UNDECIDED,
     REF_REFUSED,
-    REF_FILLED
+    REF_FILLED,
+    REF_WRITTEN
 };
 
-/* number: slots needed, miss time or refusal number; place: missed id or the
- * refusal's place; 0 where there is none. */
+/* number: slots needed, miss time, refusal number or rows written; place:
+ * missed id or the refusal's place; 0 where there is none. */
 struct ref_reply {
     enum ref_kind kind;
     uint64_t number;
@@ -78,7 +80,7 @@ extern int ref_fault;
 struct ref_reply ref_read(uint32_t policy, const uint8_t *text, size_t text_len,
                           struct ref_table *table);
 
-/* The four functions. Buffers are as the C boundary has them. */
+/* The document's four functions. Buffers are as the C boundary has them. */
 struct ref_reply ref_verdict(uint32_t policy, uint64_t allowance,
                              const uint8_t *text, size_t text_len);
 struct ref_reply ref_responses(uint32_t policy, uint64_t allowance,
@@ -90,5 +92,11 @@ struct ref_reply ref_as_run(uint32_t policy, const uint8_t *text, size_t text_le
                             const uint32_t *requests, size_t requests_len,
                             const uint32_t *loadings, size_t loadings_len,
                             uint8_t *slots, size_t slots_len);
+
+/* The ids in ascending order. The document does not have it; the words are: "At
+ * least 16 lent bytes, else refusal 2; then 3 on (no policy is asked, so no
+ * refusal 1); reply written, its number the rows; bytes past them stay." */
+struct ref_reply ref_ids(const uint8_t *text, size_t text_len,
+                         uint8_t *ids, size_t ids_len);
 
 #endif

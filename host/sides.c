@@ -4,23 +4,28 @@
 #include <stdio.h>
 
 const struct side reference_side = {
-    "reference", ref_verdict, ref_responses, ref_schedule, ref_as_run
+    "reference", ref_verdict, ref_responses, ref_schedule, ref_as_run, ref_ids
 };
+
+/* How many kinds, ids and refusal numbers the number of a reply has room for. */
+enum { KINDS = 16, MISSED_IDS = 256, REFUSAL_NUMBERS = 32 };
 
 /* The one number that stands for a reply. */
 static uint64_t crossing(struct ref_reply reply)
 {
     switch (reply.kind) {
     case REF_ACCEPTED:
-        return OTTER_ACCEPTED + 8 * reply.number;
+        return OTTER_ACCEPTED + KINDS * reply.number;
     case REF_MISSED:
-        return OTTER_MISSED + 8 * (uint64_t)reply.place + 2048 * reply.number;
+        return OTTER_MISSED + KINDS * (reply.place + MISSED_IDS * reply.number);
     case REF_UNDECIDED:
         return OTTER_UNDECIDED;
     case REF_REFUSED:
-        return OTTER_REFUSED + 8 * reply.number + 256 * (uint64_t)reply.place;
+        return OTTER_REFUSED + KINDS * (reply.number + REFUSAL_NUMBERS * (uint64_t)reply.place);
     case REF_FILLED:
         return OTTER_FILLED;
+    case REF_WRITTEN:
+        return OTTER_WRITTEN + KINDS * reply.number;
     }
     return 0;
 }
@@ -62,7 +67,34 @@ static struct ref_reply as_run(uint32_t policy, const uint8_t *text, size_t text
                                     loadings, loadings_len, slots, slots_len));
 }
 
-const struct side otter_side = { "ottersprawl", verdict, responses, schedule, as_run };
+static struct ref_reply ids(const uint8_t *text, size_t text_len, uint8_t *lent, size_t lent_len)
+{
+    return taken_apart(otter_ids(text, text_len, lent, lent_len));
+}
+
+const struct side otter_side = { "ottersprawl", verdict, responses, schedule, as_run, ids };
+
+const char *const function_names[FUNCTIONS] = { "verdict", "responses", "schedule", "as_run",
+                                                "ids" };
+
+struct ref_reply reply_of(const struct side *side, enum function function,
+                          const struct arguments *a)
+{
+    switch (function) {
+    case VERDICT:
+        return side->verdict(a->policy, a->allowance, a->text, a->text_len);
+    case RESPONSES:
+        return side->responses(a->policy, a->allowance, a->text, a->text_len,
+                               a->lent, a->lent_len);
+    case SCHEDULE:
+        return side->schedule(a->policy, a->text, a->text_len, a->lent, a->lent_len);
+    case AS_RUN:
+        return side->as_run(a->policy, a->text, a->text_len, a->requests, a->requests_len,
+                            a->loadings, a->loadings_len, a->lent, a->lent_len);
+    default:
+        return side->ids(a->text, a->text_len, a->lent, a->lent_len);
+    }
+}
 
 int equal_replies(struct ref_reply a, struct ref_reply b)
 {
@@ -72,14 +104,14 @@ int equal_replies(struct ref_reply a, struct ref_reply b)
 /* By kind; a format may leave the place, or both, unused. */
 static const char *const formats[] = {
     "no reply: number %llu, place %u", "accepted %llu", "missed %llu, id %u", "undecided",
-    "refused %llu, place %u", "filled"
+    "refused %llu, place %u", "filled", "written %llu"
 };
 
 const char *reply_words(struct ref_reply reply)
 {
     static char words[2][80];
     static int turn;
-    const char *format = formats[reply.kind <= REF_FILLED ? reply.kind : 0];
+    const char *format = formats[reply.kind <= REF_WRITTEN ? reply.kind : 0];
     turn = 1 - turn;
     snprintf(words[turn], sizeof words[turn], format, (unsigned long long)reply.number,
              (unsigned)reply.place);

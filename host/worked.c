@@ -1,7 +1,7 @@
 /*
  * The tables worked by hand in the specification (document 01), the figures
- * of its source 000 and a few more, tried on the reference and on the
- * checker. Ends in "N passed, 0 failed".
+ * of its source 000 and a few more, and every reply of ids, tried on the
+ * reference and on the checker. Ends in "N passed, 0 failed".
  */
 #include "event.h"
 #include "sides.h"
@@ -26,6 +26,7 @@ struct worked {
 #define ACCEPTED(slots) { REF_ACCEPTED, slots, 0 }
 #define MISSED(time, id) { REF_MISSED, time, id }
 #define REFUSED(number, place) { REF_REFUSED, number, place }
+#define WRITTEN(rows) { REF_WRITTEN, rows, 0 }
 
 static const struct worked all_worked[] = {
     { "first table, figure 3", ANY_POLICY, 2,
@@ -237,6 +238,135 @@ static void try_cut_fault(void)
     check(completion(side, &sixth, 1, NULL, 0, 2, 10) == 9, side, sixth.name, "response, start 5");
 }
 
+/* ---- Ids ---- */
+
+enum { IDS_ROWS = 4, IDS_ROOM = 40, STAYS = 0xa5 };
+
+/* Rows, what ids replies, and the ids if it writes them. */
+struct ids_worked {
+    const char *name;
+    size_t count;
+    struct ref_row rows[IDS_ROWS];
+    struct ref_reply reply;
+    uint8_t ids[IDS_ROWS];
+};
+
+/* In those named "n before m", both checks fail. */
+static const struct ids_worked all_ids[] = {
+    { "one row", 1, { { 255, 0, 1, 2, 2, 0, 0, 1 } }, WRITTEN(1), { 255 } },
+    { "three rows", 3,
+      { { 200, 0, 1, 4, 4, 0, 0, 1 }, { 7, 0, 1, 4, 4, 0, 0, 2 }, { 31, 0, 1, 4, 4, 0, 0, 3 } },
+      WRITTEN(3), { 7, 31, 200 } },
+    { "a deadline is missed", 1, { { 5, 0, 2, 2, 5, 1, 1, 1 } }, WRITTEN(1), { 5 } },
+    { "ids of H 100,000", 2,
+      { { 2, 0, 1, 3125, 3125, 0, 0, 1 }, { 1, 0, 1, 32, 32, 0, 0, 2 } }, WRITTEN(2), { 1, 2 } },
+    { "no row", 0, { { 0 } }, REFUSED(5, 0), { 0 } },
+    { "id 0", 2, { { 9, 0, 1, 4, 4, 0, 0, 1 }, { 0, 0, 1, 4, 4, 0, 0, 2 } }, REFUSED(6, 0), { 0 } },
+    { "6 before 7", 4,
+      { { 300, 0, 1, 4, 4, 0, 0, 1 }, { 256, 0, 1, 4, 4, 0, 0, 2 },
+        { 2, 0, 1, 4, 4, 0, 0, 3 }, { 2, 0, 1, 4, 4, 0, 0, 4 } }, REFUSED(6, 256), { 0 } },
+    { "7 before 8", 4,
+      { { 9, 0, 0, 4, 4, 0, 0, 1 }, { 9, 0, 1, 4, 4, 0, 0, 2 },
+        { 4, 0, 1, 4, 4, 0, 0, 3 }, { 4, 0, 1, 4, 4, 0, 0, 4 } }, REFUSED(7, 4), { 0 } },
+    { "8 before 9", 3,
+      { { 9, 10001, 1, 4, 4, 0, 0, 1 }, { 4, 0, 1, 4, 4, 10001, 0, 2 },
+        { 2, 0, 1, 4, 4, 0, 0, 256 } }, REFUSED(8, 4), { 0 } },
+    { "9 before 10", 4,
+      { { 9, 0, 1, 4, 4, 0, 0, 256 }, { 4, 0, 1, 4, 4, 0, 0, 0 },
+        { 2, 0, 1, 4, 4, 0, 0, 7 }, { 3, 0, 1, 4, 4, 0, 0, 7 } }, REFUSED(9, 4), { 0 } },
+    { "10 before 11", 3,
+      { { 9, 0, 1, 4, 4, 0, 0, 7 }, { 4, 0, 1, 4, 4, 0, 0, 7 }, { 2, 0, 5, 4, 4, 0, 0, 1 } },
+      REFUSED(10, 4), { 0 } },
+    { "11 before 12", 3,
+      { { 9, 0, 5, 4, 4, 0, 0, 1 }, { 4, 0, 1, 5, 4, 0, 0, 2 }, { 2, 0, 1, 4, 4, 0, 1, 3 } },
+      REFUSED(11, 4), { 0 } },
+    { "12 before 13", 2,
+      { { 9, 0, 1, 4, 3125, 0, 1, 1 }, { 4, 0, 1, 4, 33, 1, 2, 2 } }, REFUSED(12, 4), { 0 } },
+    { "ids of H 103,125", 2,
+      { { 2, 0, 1, 4, 3125, 0, 0, 1 }, { 1, 0, 1, 4, 33, 0, 0, 2 } }, REFUSED(13, 0), { 0 } },
+};
+enum { IDS_WORKED = sizeof all_ids / sizeof all_ids[0] };
+
+/* Bytes that hold no id have to stay, those behind the lent ones too. */
+static void check_ids(const struct side *side, const char *name, const struct text *text,
+                      size_t lent_len, struct ref_reply reply, const uint8_t *ids)
+{
+    uint8_t lent[IDS_ROOM], expected[IDS_ROOM];
+    memset(lent, STAYS, sizeof lent);
+    memset(expected, STAYS, sizeof expected);
+    if (reply.kind == REF_WRITTEN)
+        memcpy(expected, ids, (size_t)reply.number);
+    check_reply(side->ids(text->bytes, text->length, lent, lent_len), reply, side, name);
+    check(memcmp(lent, expected, sizeof lent) == 0, side, name, "lent bytes of ids");
+}
+
+/* Too few bytes are refusal 2, whatever else is wrong. */
+static void try_ids(const struct side *side, const char *name, const struct text *text,
+                    struct ref_reply reply, const uint8_t *ids)
+{
+    const struct ref_reply too_few = REFUSED(2, 0);
+    check_ids(side, name, text, 0, too_few, ids);
+    check_ids(side, name, text, REF_IDS_LEAST - 1, too_few, ids);
+    check_ids(side, name, text, REF_IDS_LEAST, reply, ids);
+    check_ids(side, name, text, REF_IDS_LEAST + 1, reply, ids);
+    check_ids(side, name, text, IDS_ROOM, reply, ids);
+}
+
+/* Whichever row comes first. */
+static void try_sixteen_ids(const struct side *side)
+{
+    struct ref_row rows[2 * REF_ROWS_MOST];
+    uint8_t ids[REF_ROWS_MOST];
+    for (uint32_t i = 0; i < REF_ROWS_MOST; i++) {
+        const struct ref_row row = { 1 + 16 * (7 * i % 16), 0, 1, 16, 16, 0, 0, 1 + i };
+        rows[i] = rows[i + REF_ROWS_MOST] = row;
+        ids[i] = (uint8_t)(1 + 16 * i);
+    }
+    for (size_t first = 0; first < REF_ROWS_MOST; first++) {
+        const struct ref_reply written = WRITTEN(REF_ROWS_MOST);
+        struct text text;
+        write_text(&text, rows + first, REF_ROWS_MOST, plain_writing);
+        try_ids(side, "16 rows", &text, written, ids);
+    }
+}
+
+static void try_refused_ids(const struct side *side, const char *name, const struct text *text,
+                            uint64_t number, uint32_t place)
+{
+    const struct ref_reply refused = REFUSED(number, place);
+    try_ids(side, name, text, refused, NULL);
+}
+
+/* Refusals 3 to 5, as far as rows alone do not give them. */
+static void try_ids_of_texts(const struct side *side)
+{
+    const struct ref_row too_many[REF_ROWS_MOST + 1] = { { 0 } };
+    struct text text = { { 0 }, 0 };
+    try_refused_ids(side, "empty text", &text, 4, 1);
+    write_text(&text, too_many, REF_ROWS_MOST + 1, plain_writing);
+    try_refused_ids(side, "5 before 6", &text, 5, 0);
+    write_text(&text, too_many, 0, plain_writing);
+    add_string(&text, "\r\n");
+    try_refused_ids(side, "4 before 5", &text, 4, 2);
+    while (text.length < REF_TEXT_MOST)
+        add_byte(&text, '0');
+    try_refused_ids(side, "4,096 bytes", &text, 4, 2);
+    add_byte(&text, '0');
+    try_refused_ids(side, "3 before 4", &text, 3, 0);
+}
+
+static void try_all_ids(const struct side *side)
+{
+    for (size_t i = 0; i < IDS_WORKED; i++) {
+        const struct ids_worked *worked = &all_ids[i];
+        struct text text;
+        write_text(&text, worked->rows, worked->count, plain_writing);
+        try_ids(side, worked->name, &text, worked->reply, worked->ids);
+    }
+    try_sixteen_ids(side);
+    try_ids_of_texts(side);
+}
+
 static void try_side(const struct side *side)
 {
     for (size_t i = 0; i < WORKED; i++)
@@ -245,6 +375,7 @@ static void try_side(const struct side *side)
     try_first_request(side);
     try_figure_six(side);
     try_tie(side);
+    try_all_ids(side);
 }
 
 /* The event-driven implementation has a verdict only. */
