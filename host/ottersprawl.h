@@ -63,14 +63,14 @@
  *   Nothing is allocated.
  * - Reading the table: at most 10 microseconds, also where it is refused.
  *   otter_ids costs no more than that.
- * - Each slot up to the verdict or to the end of the lent slots: mostly less
- *   than a nanosecond, since nothing is spent on a slot in which nothing
- *   happens, and at most 70 ns. What costs most is many rows with short
- *   periods, of which none divides the next, under policy 4: one release and
- *   one completion in every slot, in no order that a processor could learn.
- *   So plan with 100 ns for each slot of the allowance: 1,000,000 slots take
- *   at most 0.1 s, 10,000,000 at most a second, and 2^48 may take months,
- *   although tables that need more than 10,000,000 are rare.
+ * - Each slot up to the verdict or to the end of the lent slots: mostly a few
+ *   nanoseconds or less, since nothing is spent on a slot in which nothing
+ *   happens, and at most 70. What costs most is many rows with short, unlike
+ *   periods under policy 4: a release and a completion in almost every slot,
+ *   in no order that the processor could learn. So plan with 100 ns for each
+ *   slot of the allowance: 1,000,000 slots take at most 0.1 s, 10,000,000 at
+ *   most a second, and 2^48 may take months; but tables that need more than
+ *   10,000,000 slots are rare.
  */
 #ifndef OTTERSPRAWL_H
 #define OTTERSPRAWL_H

@@ -28,7 +28,6 @@ use Rattle.rules.specs.Schedules.{Fills, Writes}
 use Rattle.rules.specs.Written.{IdsAre}
 use Rattle.rules.specs.declared.Verdict.the-variants as verdict
 use Rattle.rules.specs.declared.ScheduleReply.the-variants as schedule
-use Rattle.rules.specs.declared.WriteReply.the-variants as write
 use Rattle.basics.specs.Cases.{test, eq-case, clash, both-true}
 use Rattle.basics.specs.Search.{lowest-top}
 use Rattle.reordering.specs.All.{All}

@@ -1,7 +1,7 @@
 -- From the numbers that the checker is lent to the bytes that the host lends: what the checker says of the numbers holds of the bytes
--- that they are written over, and where it does not accept, no byte is stored. `otter_responses` uses it.
-use mathlib.Core.Path.{_≡_, refl, sym, _∙_}
-use mathlib.Core.Bool.{true, false}
+-- that they are written over, where it accepts. `otter_responses` uses it.
+use mathlib.Core.Path.{_≡_, refl, _∙_}
+use mathlib.Core.Bool.{true}
 use mathlib.Core.List.{List, _++_}
 use Prim.Native.Nat.{ℕ, _*_, _≤_}
 use native.Mathlib.Omega.{arith}
@@ -10,17 +10,16 @@ use lib.Dec.{ltb}
 use lib.ListN.{length, getD, take, drop, length-append, length-drop}
 use lib.Seq.{drop-at, getD-take, length-take-le}
 use Rattle.rules.specs.declared.Verdict.{Verdict}
-use Rattle.rules.specs.declared.Verdict.the-variants.{Accepted, Missed, Undecided, Refused}
 use Rattle.rules.specs.Sources.{Source}
 use Rattle.rules.specs.Checks.{refusalOf, responsesRefusal}
-use Rattle.rules.specs.Policies.{System}
 use Rattle.rules.specs.Verdicts.{systemOf, DecidesOf, Replies, Hold, Leaves, ResponsesAre}
 use Rattle.basics.specs.Cases.{clash, eq-case}
 use Rattle.reordering.specs.Canonical.{canonical-length}
 use Rattle.reordering.specs.Passed.{lent-none}
 use Rattle.checker.specs.Outcomes.{acceptedOf}
+use Rattle.checker.proofs.Replied.{accepted-is}
 use Rattle.boundary.specs.Bytes.{bytesOf}
-use Rattle.boundary.specs.Crossing.{bytesRefusal, HoldBytes, LeavesBytes}
+use Rattle.boundary.specs.Crossing.{bytesRefusal, HoldBytes}
 use Rattle.boundary.proofs.Numbers.{bytes-length, bytes-at}
 use Rattle.boundary.proofs.Bounds.{tasks-few, worst-low}
 
@@ -42,20 +41,17 @@ module _ (p a : ℕ) (s : Source) (before : List ℕ) (wide : 64 ≤ length befo
     pub few : length (s .rows) ≤ 16
     few = omega (arith, tasks-few s passes, canonical-length (s .rows))
 
+    held : Hold (systemOf p s) lent numbers
+    held = rw (accepted-is v yes .1) at (r .buffer)
+
     pub numbers-long : length numbers ≡ 16
-    numbers-long = go v (r .buffer)
-      where
-        go : (w : Verdict) → Leaves (systemOf p s) w lent numbers → length numbers ≡ 16
-        go (Accepted n) l = l .length ∙ sixteen
-        go (Missed t i) l = rw l sixteen
-        go Undecided l = rw l sixteen
-        go (Refused n q) l = rw l sixteen
+    numbers-long = held .length ∙ sixteen
 
     abbrev pub over : List ℕ
     over = bytesOf (take (length (s .rows)) numbers) ++ drop (4 * length (s .rows)) before
 
-    hold : Hold (systemOf p s) lent numbers → HoldBytes (systemOf p s) before over
-    hold h =
+    hold : HoldBytes (systemOf p s) before over
+    hold =
         let n = length (s .rows) in
         let tasks : systemOf p s .tasks ≡ n = canonical-length (s .rows) in
         let size : length (take n numbers) ≡ n = length-take-le n numbers (omega (arith, few, numbers-long)) in
@@ -64,27 +60,14 @@ module _ (p a : ℕ) (s : Source) (before : List ℕ) (wide : 64 ≤ length befo
           length = rw (length-append, bytes, length-drop) (omega (arith, few));
           worst = λ i low. let here = getD-take n numbers i 0 (omega arith) in (
             getD numbers i 0,
-            h .worst i low,
+            held .worst i low,
             record {
-              fits = omega (arith, worst-low s passes p i (getD numbers i 0) (h .worst i low));
+              fits = omega (arith, worst-low s passes p i (getD numbers i 0) (held .worst i low));
               bytes = bytes-at (take n numbers) (drop (4 * n) before) i (omega arith) ∙ rw here;
             },
           );
           rest = rw tasks (drop-at (bytesOf (take n numbers)) (drop (4 * n) before) (4 * n) bytes);
         }
 
-    pub leaves-accepted : LeavesBytes (systemOf p s) v before over
-    leaves-accepted = go v yes (r .buffer)
-      where
-        go : (w : Verdict) → acceptedOf w ≡ true → Leaves (systemOf p s) w lent numbers → LeavesBytes (systemOf p s) w before over
-        go (Accepted n) k l = hold l
-        go (Missed t i) k l = clash k refl
-        go Undecided k l = clash k refl
-        go (Refused n q) k l = clash k refl
-
--- ANY OTHER REPLY
-pub leaves-other : (y : System) (v : Verdict) (before : List ℕ) → acceptedOf v ≡ false → LeavesBytes y v before before
-leaves-other y (Accepted n) before k = clash refl k
-leaves-other y (Missed t i) before k = refl
-leaves-other y Undecided before k = refl
-leaves-other y (Refused n q) before k = refl
+    pub leaves-accepted : Leaves (HoldBytes (systemOf p s) before over) v before over
+    leaves-accepted = rw (accepted-is v yes .1) hold

@@ -5,8 +5,6 @@ use Prim.Native.Nat.{ℕ, zero, suc, _+_, _*_, _≤_}
 use native.Mathlib.Omega.{arith}
 use lib.ListN.{length, take, take-append-drop}
 use lib.Seq.{take-add}
-use Rattle.rules.specs.declared.Verdict.{Verdict}
-use Rattle.rules.specs.declared.Verdict.the-variants.{Accepted, Missed, Undecided, Refused}
 use Rattle.rules.specs.Table.{omax, hyper}
 use Rattle.rules.specs.Sources.{Source}
 use Rattle.rules.specs.Slots.{stated}
@@ -15,12 +13,12 @@ use Rattle.rules.specs.AsRun.{listed}
 use Rattle.rules.specs.Checks.{verdictRefusal, slotsRefusal, idsRefusal}
 use Rattle.rules.specs.Verdicts.{tasksOf, systemOf}
 use Rattle.rules.specs.Written.{idsOf}
-use Rattle.theory.specs.Replies.{verdict-one}
+use Rattle.theory.specs.Replies.{verdict-one, leaves-one}
 use Rattle.theory.specs.Responses.{worst-one}
 use Rattle.theory.specs.ScheduleReplies.{writes-one}
 use Rattle.theory.specs.WriteReplies.{puts-one}
 use Rattle.boundary.specs.Packed.{packed, packedSchedule, packedWrite}
-use Rattle.boundary.specs.Crossing.{bytesRefusal, HoldBytes, LeavesBytes, VerdictCrosses, ResponsesCross, ScheduleCrosses, AsRunCrosses, IdsCross}
+use Rattle.boundary.specs.Crossing.{bytesRefusal, HoldBytes, VerdictCrosses, ResponsesCross, ScheduleCrosses, AsRunCrosses, IdsCross}
 
 pub verdict-once : {p a : ℕ} {s : Source} {r q : ℕ} → VerdictCrosses p a s r → VerdictCrosses p a s q → r ≡ q
 verdict-once {p} {a} {s} c d = c .crosses ∙ ap packed (verdict-one (verdictRefusal p s) (systemOf p s) (omax (tasksOf s)) (hyper (tasksOf s)) a (c .reply) (d .reply) (c .right) (d .right)) ∙ sym (d .crosses)
@@ -40,16 +38,10 @@ module _ (y : System) (before x z : List ℕ) (a : HoldBytes y before x) (b : Ho
       let n = 4 * y .tasks in
       sym (take-append-drop n x) ∙ rw (same-front (y .tasks) (omega arith), a .rest, ← b .rest) (take-append-drop n z)
 
-leaves-once : (y : System) (v : Verdict) (before x z : List ℕ) → LeavesBytes y v before x → LeavesBytes y v before z → x ≡ z
-leaves-once y (Accepted n) before x z a b = same-bytes y before x z a b
-leaves-once y (Missed t i) before x z a b = a ∙ sym b
-leaves-once y Undecided before x z a b = a ∙ sym b
-leaves-once y (Refused n p) before x z a b = a ∙ sym b
-
 pub responses-once : {p a : ℕ} {s : Source} {before x z : List ℕ} {r q : ℕ} → ResponsesCross p a s before x r → ResponsesCross p a s before z q → (r ≡ q) × (x ≡ z)
 responses-once {p} {a} {s} {before} {x} {z} c d =
     let e = verdict-one (bytesRefusal p (length before) s) (systemOf p s) (omax (tasksOf s)) (hyper (tasksOf s)) a (c .reply) (d .reply) (c .right) (d .right) in
-    (c .crosses ∙ ap packed e ∙ sym (d .crosses), leaves-once (systemOf p s) (d .reply) before x z (rw e at (c .buffer)) (d .buffer))
+    (c .crosses ∙ ap packed e ∙ sym (d .crosses), leaves-one (d .reply) before x z (same-bytes (systemOf p s) before x z) (rw e at (c .buffer)) (d .buffer))
 
 pub schedule-once : {p : ℕ} {s : Source} {before x z : List ℕ} {r q : ℕ} → ScheduleCrosses p s before x r → ScheduleCrosses p s before z q → (r ≡ q) × (x ≡ z)
 schedule-once {p} {s} {before} {x} {z} c d =

@@ -1,7 +1,6 @@
 -- Nothing is lost: of every reply that the rules give to a small source, as a text is (`Bounds.text-small`), kind, number and place are
 -- had back from the one number that crosses, by the divisions of host/ottersprawl.h.
 use mathlib.Core.Path.{_≡_, refl}
-use mathlib.Core.Logic.{_⊎_, inl, inr}
 use mathlib.Core.List.{List}
 use Prim.Native.Nat.{ℕ, _+_, _*_, _/_, _%_, _≤_, _<_}
 use native.Mathlib.Nat.{div-eq-of-lt-le}
@@ -21,36 +20,28 @@ use Rattle.boundary.specs.Packed.{packedMiss, packedRefusal, packed, pac
 use Rattle.boundary.specs.Crossing.{VerdictCrosses, ResponsesCross, ScheduleCrosses, AsRunCrosses, IdsCross}
 use Rattle.boundary.proofs.Bounds.{SmallSource, verdict-small, bytes-small, writes-small, ids-small}
 
--- THE DIVISIONS
+-- THE DIVISIONS: a kind below 16, and what stands above it
+apart : (r n k : ℕ) → r ≡ n * 16 + k → k < 16 → (r % 16 ≡ k) × (r / 16 ≡ n)
+apart r n k e h =
+    let above : r / 16 ≡ n = div-eq-of-lt-le 16 (omega arith) (omega arith) in
+    (omega arith, above)
+
 parts-miss : (r t i : ℕ) → r ≡ packedMiss t i → i ≤ 255 → Parts 2 t i r
 parts-miss r t i e h =
-    let both : r / 16 ≡ t * 256 + i = div-eq-of-lt-le 16 (omega arith) (omega arith) in
-    let kind : r % 16 ≡ 2 = omega arith in
+    let both = apart r (t * 256 + i) 2 e (omega arith) in
     let time : r / 4096 ≡ t = div-eq-of-lt-le 4096 (omega arith) (omega arith) in
     let id : (t * 256 + i) % 256 ≡ i = omega (arith, div-eq-of-lt-le {k = t} 256 {m = t * 256 + i} (omega arith) (omega arith)) in
-    record { kind = kind; number = rw kind time; place = rw (kind, both) id }
+    record { kind = both .0; number = rw (both .0) time; place = rw (both .0, both .1) id }
 
 parts-refusal : (r n p : ℕ) → r ≡ packedRefusal n p → n < 32 → Parts 4 n p r
 parts-refusal r n p e h =
-    let both : r / 16 ≡ p * 32 + n = div-eq-of-lt-le 16 (omega arith) (omega arith) in
-    let kind : r % 16 ≡ 4 = omega arith in
+    let both = apart r (p * 32 + n) 4 e (omega arith) in
     let place : r / 512 ≡ p = div-eq-of-lt-le 512 (omega arith) (omega arith) in
     let number : (p * 32 + n) % 32 ≡ n = omega (arith, div-eq-of-lt-le {k = p} 32 {m = p * 32 + n} (omega arith) (omega arith)) in
-    record { kind = kind; number = rw (kind, both) number; place = rw kind place }
-
--- accepted and written have a number and no place
-parts-number : (r n k : ℕ) → r ≡ n * 16 + k → (k ≡ 1) ⊎ (k ≡ 6) → Parts k n 0 r
-parts-number r n k e (inl one) =
-    let kind : r % 16 ≡ 1 = omega arith in
-    let number : r / 16 ≡ n = div-eq-of-lt-le 16 (omega arith) (omega arith) in
-    rw one (record { kind = kind; number = rw kind number; place = rw kind refl })
-parts-number r n k e (inr six) =
-    let kind : r % 16 ≡ 6 = omega arith in
-    let number : r / 16 ≡ n = div-eq-of-lt-le 16 (omega arith) (omega arith) in
-    rw six (record { kind = kind; number = rw kind number; place = rw kind refl })
+    record { kind = both .0; number = rw (both .0, both .1) number; place = rw (both .0) place }
 
 unpacked : (v : Verdict) (r : ℕ) → Small v → r ≡ packed v → Unpacked v r
-unpacked (verdict.Accepted n) r h e = parts-number r n 1 e (inl refl)
+unpacked (verdict.Accepted n) r h e = let both = apart r n 1 e (omega arith) in record { kind = both .0; number = rw (both .0) (both .1); place = rw (both .0) refl }
 unpacked (verdict.Missed t i) r h e = parts-miss r t i e (h .1)
 unpacked verdict.Undecided r h e = rw e (record { kind = refl; number = refl; place = refl })
 unpacked (verdict.Refused n p) r h e = parts-refusal r n p e (h .0)
@@ -61,7 +52,7 @@ unpacked-schedule (schedule.Missed t i) r h e = parts-miss r t i e (h .1)
 unpacked-schedule (schedule.Refused n p) r h e = parts-refusal r n p e (h .0)
 
 unpacked-write : (v : WriteReply) (r : ℕ) → SmallWrite v → r ≡ packedWrite v → UnpackedWrite v r
-unpacked-write (write.Written n) r h e = parts-number r n 6 e (inr refl)
+unpacked-write (write.Written n) r h e = let both = apart r n 6 e (omega arith) in record { kind = both .0; number = rw (both .0) (both .1); place = rw (both .0) refl }
 unpacked-write (write.Refused n p) r h e = parts-refusal r n p e (h .0)
 
 -- OF WHAT CROSSES

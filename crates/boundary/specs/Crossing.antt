@@ -7,13 +7,12 @@ use lib.Dec.{ltb}
 use lib.ListN.{length, take, drop}
 use Rattle.rules.specs.declared.Refusal.{Refusal}
 use Rattle.rules.specs.declared.Verdict.{Verdict}
-use Rattle.rules.specs.declared.Verdict.the-variants.{Accepted, Missed, Undecided, Refused}
 use Rattle.rules.specs.declared.ScheduleReply.{ScheduleReply}
 use Rattle.rules.specs.declared.WriteReply.{WriteReply}
 use Rattle.rules.specs.Sources.{Source}
 use Rattle.rules.specs.Checks.{refusalFor}
 use Rattle.rules.specs.Policies.{System}
-use Rattle.rules.specs.Verdicts.{systemOf, DecidesOf, Replies, VerdictIs, Worst}
+use Rattle.rules.specs.Verdicts.{systemOf, DecidesOf, Replies, VerdictIs, Worst, Leaves}
 use Rattle.rules.specs.Schedules.{ScheduleIs, AsRunIs}
 use Rattle.rules.specs.Written.{IdsAre}
 use Rattle.boundary.specs.Packed.{packed, packedSchedule, packedWrite}
@@ -41,16 +40,10 @@ pub record HoldBytes (y : System) (before after : List ℕ) : Type 0 where
   pub worst : (i : ℕ) → i < y .tasks → (m : ℕ) × Worst y i m × Four m (4 * i) after
   pub rest : drop (4 * y .tasks) after ≡ drop (4 * y .tasks) before
 
-abbrev pub LeavesBytes : System → Verdict → List ℕ → List ℕ → Type 0
-LeavesBytes y (Accepted n) before after = HoldBytes y before after
-LeavesBytes y (Missed t i) before after = after ≡ before
-LeavesBytes y Undecided before after = after ≡ before
-LeavesBytes y (Refused n p) before after = after ≡ before
-
 pub record ResponsesCross (p a : ℕ) (s : Source) (before after : List ℕ) (r : ℕ) : Type 0 where
   pub reply : Verdict
   pub right : Replies (bytesRefusal p (length before) s) (DecidesOf p a s) reply
-  pub buffer : LeavesBytes (systemOf p s) reply before after
+  pub buffer : Leaves (HoldBytes (systemOf p s) before after) reply before after
   pub crosses : r ≡ packed reply
 
 -- SCHEDULE and AS RUN: the bytes are those of the rules

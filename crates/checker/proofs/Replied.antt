@@ -14,7 +14,6 @@ use Rattle.rules.specs.declared.Verdict.{Verdict}
 use Rattle.rules.specs.declared.Verdict.the-variants.{Accepted, Missed, Undecided, Refused}
 use Rattle.rules.specs.Sources.{sourceOf}
 use Rattle.rules.specs.Checks.{check, refusalFor}
-use Rattle.rules.specs.Policies.{System}
 use Rattle.rules.specs.Verdicts.{systemOf, DecidesOf, Replies, Hold, Leaves}
 use Rattle.basics.specs.Cases.{clash}
 use Rattle.table.specs.declared.TableRead.{TableRead}
@@ -36,6 +35,21 @@ passes n b e k h = rw (← e, k) h
 pub given : {f g : Refusal} → f ≡ g → g .number ≢ 0 → (Right : Verdict → Type 0) → Replies f Right (Refused (g .number) (g .place))
 given e some Right = rw e (record { refused = λ x. refl; decided = λ z. absurd (some z) })
 
+-- ACCEPTED OR NOT, as the code tests it
+
+pub accepted-is : (v : Verdict) → acceptedOf v ≡ true → (n : ℕ) × (v ≡ Accepted n)
+accepted-is (Accepted n) k = (n, refl)
+accepted-is (Missed t i) k = clash k refl
+accepted-is Undecided k = clash k refl
+accepted-is (Refused n q) k = clash k refl
+
+-- any other reply leaves lent memory as it is
+pub other-leaves : (H : Type 0) (v : Verdict) (before : List ℕ) → acceptedOf v ≡ false → Leaves H v before before
+other-leaves H (Accepted n) before k = clash refl k
+other-leaves H (Missed t i) before k = refl
+other-leaves H Undecided before k = refl
+other-leaves H (Refused n q) before k = refl
+
 -- THE TABLE IN HAND
 module _ {p a : ℕ} (b : Bool) (s : RowsRead) {g : TableRead} (e : g ≡ tableRead p b s) (fine : g .refusal .number ≡ 0) (full : length (s .rows) ≡ 16)
     {o : Outcome} (d : Outcomes p (g .table) a o) where
@@ -56,19 +70,7 @@ module _ {p a : ℕ} (b : Bool) (s : RowsRead) {g : TableRead} (e : g ≡ tableR
           rest = rw size (w .rest);
         }
 
-    pub accepted-leaves : acceptedOf (o .verdict) ≡ true → Leaves (systemOf p (sourceOf s)) (o .verdict) before after
-    accepted-leaves k = rw (tasks-in p b s e fine full) at (go (o .verdict) k hold)
-      where
-        go : (v : Verdict) → acceptedOf v ≡ true → ((n : ℕ) → v ≡ Accepted n → Hold (systemIn p (g .table)) before after)
-            → Leaves (systemIn p (g .table)) v before after
-        go (Accepted n) k h = h n refl
-        go (Missed t i) k h = clash k refl
-        go Undecided k h = clash k refl
-        go (Refused n q) k h = clash k refl
-
--- any other reply leaves them as lent
-pub other-leaves : (y : System) (v : Verdict) (before : List ℕ) → acceptedOf v ≡ false → Leaves y v before before
-other-leaves y (Accepted n) before k = clash refl k
-other-leaves y (Missed t i) before k = refl
-other-leaves y Undecided before k = refl
-other-leaves y (Refused n q) before k = refl
+    pub accepted-leaves : acceptedOf (o .verdict) ≡ true → Leaves (Hold (systemOf p (sourceOf s)) before after) (o .verdict) before after
+    accepted-leaves k =
+        let a = accepted-is (o .verdict) k in
+        rw (a .1) (rw (tasks-in p b s e fine full) at (hold (a .0) (a .1)))

@@ -16,7 +16,7 @@ use Rattle.rules.specs.Checks.{check, refusalOf, policyWrong, tooFew, slotsWron
 use Rattle.rules.specs.Policies.{System, policy, system}
 use Rattle.rules.specs.Slots.{Choice, stated}
 use Rattle.rules.specs.AsRun.{listed}
-use Rattle.rules.specs.Verdicts.{tasksOf, systemOf, Decides, DecidesOf, Replies, VerdictIs, Leaves, ResponsesAre}
+use Rattle.rules.specs.Verdicts.{tasksOf, systemOf, Decides, DecidesOf, Replies, VerdictIs, Hold, Leaves, ResponsesAre}
 use Rattle.rules.specs.Schedules.{Writes, ScheduleIs, AsRunIs}
 use Rattle.rules.specs.Written.{Puts, idsOf, IdsAre}
 use Rattle.basics.specs.Cases.{eq-case}
@@ -36,9 +36,9 @@ module _ (s t : Source) (alike : Alike s t) where
   }
 
   leaves : (f : Refusal) (p a : ℕ) (r : Verdict) (before after : List ℕ) → (f .number ≡ 0 → refusalOf s .number ≡ 0) → Replies f (DecidesOf p a s) r
-      → Leaves (systemOf p s) r before after → Leaves (systemOf p t) r before after
+      → Leaves (Hold (systemOf p s) before after) r before after → Leaves (Hold (systemOf p t) before after) r before after
   leaves f p a r before after fine u l = eq-case (f .number) 0
-      (λ e. subst (λ (ws : List Row). Leaves (system (policy p) ws) r before after) (alike .tasks (fine e)) l)
+      (λ e. subst (λ (ws : List Row). Leaves (Hold (system (policy p) ws) before after) r before after) (alike .tasks (fine e)) l)
       (λ e. rw (u .refused e) (rw (u .refused e) at l))
 
   pub verdict-to : (p a : ℕ) (r : Verdict) → VerdictIs p a s r → VerdictIs p a t r

@@ -101,14 +101,15 @@ hold-one y before x z a b = ext-getD 0 x z (a .length ∙ sym (b .length)) (λ i
     rw q at (sym (getD-drop (y .tasks) x (i - y .tasks) 0) ∙ ap (λ l. getD l (i - y .tasks) 0) (a .rest ∙ sym (b .rest)) ∙ getD-drop (y .tasks) z (i - y .tasks) 0))
     (λ e. worst-one y i (getD x i 0) (getD z i 0) (a .worst i e) (b .worst i e)))
 
-leaves-one : (y : System) (r : Verdict) (before x z : List ℕ) → Leaves y r before x → Leaves y r before z → x ≡ z
-leaves-one y (Accepted n) before x z a b = hold-one y before x z a b
-leaves-one y (Missed t i) before x z a b = a ∙ sym b
-leaves-one y Undecided before x z a b = a ∙ sym b
-leaves-one y (Refused n p) before x z a b = a ∙ sym b
+-- what is left is one, if what is held where it is accepted is one
+pub leaves-one : {H K : Type 0} (r : Verdict) (before x z : List ℕ) → (H → K → x ≡ z) → Leaves H r before x → Leaves K r before z → x ≡ z
+leaves-one (Accepted n) before x z one a b = one a b
+leaves-one (Missed t i) before x z one a b = a ∙ sym b
+leaves-one Undecided before x z one a b = a ∙ sym b
+leaves-one (Refused n p) before x z one a b = a ∙ sym b
 
 pub responses-one : (p a : ℕ) (s : Source) (before x z : List ℕ) (r q : Verdict) → ResponsesAre p a s before x r → ResponsesAre p a s before z q
     → (r ≡ q) × (x ≡ z)
 responses-one p a s before x z r q u v =
     let e = verdict-one _ (systemOf p s) (omax (tasksOf s)) (hyper (tasksOf s)) a r q (u .reply) (v .reply) in
-    (e, leaves-one _ q before x z (rw e at (u .buffer)) (v .buffer))
+    (e, leaves-one q before x z (hold-one (systemOf p s) before x z) (rw e at (u .buffer)) (v .buffer))

@@ -14,16 +14,16 @@ use Rattle.rules.specs.declared.Verdict.{Verdict}
 use Rattle.rules.specs.declared.Verdict.the-variants.{Refused}
 use Rattle.rules.specs.Sources.{Source, textSource, readOf, sourceOf}
 use Rattle.rules.specs.Checks.{check, refusalOf, policyWrong}
-use Rattle.rules.specs.Verdicts.{systemOf, DecidesOf, Replies, ResponsesAre}
+use Rattle.rules.specs.Verdicts.{DecidesOf, Replies, ResponsesAre}
 use Rattle.reordering.specs.Alike.{read-alike}
 use Rattle.theory.specs.Reordered.{responses-to}
 use Rattle.checker.specs.Outcomes.{acceptedOf}
-use Rattle.checker.proofs.Replied.{fails, passes, given}
+use Rattle.checker.proofs.Replied.{fails, passes, given, other-leaves}
 use Rattle.boundary.specs.Bytes.{bytesOf}
 use Rattle.boundary.specs.Packed.{Small}
 use Rattle.boundary.specs.Crossing.{bytesRefusal}
 use Rattle.boundary.proofs.Bounds.{text-small, bytes-small}
-use Rattle.boundary.proofs.Held.{right, few, numbers-long, leaves-accepted, leaves-other}
+use Rattle.boundary.proofs.Held.{right, few, numbers-long, leaves-accepted}
 use Rattle.boundary.proofs.otter_responses.Statement.{statement}
 use Rattle.boundary.proofs.otter_responses.Tie as tie
 
@@ -137,7 +137,7 @@ returns-4 c =
     record {
       reply = verdict at;
       right = replies at;
-      buffer = leaves-other (systemOf (x .policy) (source at)) (verdict at) (x .responses .now) (sym (at .accepted .ensures) ∙ c .before .if3 .left);
+      buffer = other-leaves _ (verdict at) (x .responses .now) (sym (at .accepted .ensures) ∙ c .before .if3 .left);
       crosses = c .verdict2 .ensures;
     }
 

@@ -7,7 +7,6 @@ use Rattle.machine.proofs.SoundTables.{count-top}
 use Rattle.checker.proofs.InHand.{refusal-in, fit-in, sound-in}
 use Rattle.checker.proofs.Written.{slots-room, writes-refused, as-run-filled, as-run-missed}
 use borrow.Author.Needs.{needs}
-use borrow.Author.Needs.{needs}
 use Rattle.checker.proofs.as_run_of.Statement.{statement}
 use Rattle.checker.proofs.as_run_of.Tie as tie
 

@@ -5,7 +5,6 @@ use borrow.Author.Needs.{needs}
 use borrow.Author.Tests.{ltb-false}
 use lib.ListN.{length, length-map}
 use Rattle.rules.specs.Checks.{tooFew}
-use Rattle.table.specs.declared.TableRead.{TableRead}
 use Rattle.table.specs.Tables.{tableRead}
 use Rattle.machine.proofs.SoundTables.{count-top}
 use Rattle.checker.proofs.InHand.{refusal-in, fit-in, sound-in}

@@ -4,12 +4,9 @@ use mathlib.Core.Path.{_≡_, refl, sym, _∙_}
 use native.Mathlib.Omega.{arith}
 use borrow.Author.Tests.{ltb-false}
 use lib.ListN.{length, length-map}
-use Rattle.rules.specs.Sources.{sourceOf}
-use Rattle.rules.specs.Verdicts.{systemOf}
 use Rattle.machine.proofs.SoundTables.{count-top}
 use Rattle.checker.proofs.InHand.{refusal-in, fit-in, sound-in}
 use Rattle.checker.proofs.Replied.{given, decided, accepted-leaves, other-leaves}
-use borrow.Author.Needs.{needs}
 use borrow.Author.Needs.{needs}
 use Rattle.checker.proofs.responses_of.Statement.{statement}
 use Rattle.checker.proofs.responses_of.Tie as tie
@@ -72,7 +69,7 @@ returns-3 c =
     let o = c .before .before .decide in
     record {
       reply = decided _ _ e (fine .if1 .left) (sixteen start) (o .ensures);
-      buffer = other-leaves (systemOf (x .policy) (sourceOf (x .source))) (o .result .verdict) (x .numbers .now) (sym (c .before .accepted .ensures) ∙ c .if2 .left);
+      buffer = other-leaves _ (o .result .verdict) (x .numbers .now) (sym (c .before .accepted .ensures) ∙ c .if2 .left);
     }
 
 pub responses-of-spec : {M : Type 1} → statement M

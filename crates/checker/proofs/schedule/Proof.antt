@@ -3,7 +3,6 @@ use Rattle.rules.specs.Sources.{textSource, readOf, sourceOf}
 use Rattle.reordering.specs.Alike.{read-alike}
 use Rattle.theory.specs.Reordered.{schedule-to}
 use borrow.Author.Needs.{needs}
-use borrow.Author.Needs.{needs}
 use Rattle.checker.proofs.schedule.Statement.{statement}
 use Rattle.checker.proofs.schedule.Tie as tie
 

@@ -2,7 +2,6 @@
 use Rattle.rules.specs.Sources.{sourceOf}
 use Rattle.checker.proofs.Written.{schedule-as-run}
 use borrow.Author.Needs.{needs}
-use borrow.Author.Needs.{needs}
 use Rattle.checker.proofs.schedule_of.Statement.{statement}
 use Rattle.checker.proofs.schedule_of.Tie as tie
 

@@ -4,7 +4,6 @@ use lib.ListN.{length, length-map}
 use Rattle.checker.proofs.InHand.{refusal-in, sound-in}
 use Rattle.checker.proofs.Replied.{given, decided}
 use borrow.Author.Needs.{needs}
-use borrow.Author.Needs.{needs}
 use Rattle.checker.proofs.verdict_of.Statement.{statement}
 use Rattle.checker.proofs.verdict_of.Tie as tie
 

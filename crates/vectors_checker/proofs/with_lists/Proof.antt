@@ -4,7 +4,6 @@ use native.Mathlib.Omega.{arith}
 use lib.ListN.{length}
 use Rattle.csv.proofs.Fields.{part-count}
 use borrow.Author.Needs.{needs}
-use borrow.Author.Needs.{needs}
 use Rattle.vectors_checker.proofs.with_lists.Statement.{statement}
 use Rattle.vectors_checker.proofs.with_lists.Tie as tie
 
