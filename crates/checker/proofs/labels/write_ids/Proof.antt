@@ -1,5 +1,5 @@
 -- Rests on the loop's invariant: the ids of the rows passed, and then the bytes as they were.
-use mathlib.Core.Path.{_≡_, refl, ap, _∙_}
+use mathlib.Core.Path.{_≡_, refl, _∙_}
 use mathlib.Core.List.{List, [], _∷_, _++_, map, map-append}
 use Prim.Native.Nat.{ℕ, _+_, _-_, _≤_, _<_}
 use native.Mathlib.Numerals.{add-one}
@@ -10,6 +10,7 @@ use lib.Seq.{sets-eq, take-suc, length-take-le}
 use Rattle.rules.specs.declared.Row.{Row}
 use Rattle.rules.specs.Table.{noRow}
 use Rattle.basics.specs.Lists.{put-next}
+use Rattle.reordering.specs.Passed.{Fine}
 use Rattle.machine.proofs.SoundTables.{count-top, row-in, fine-in}
 use Rattle.checker.proofs.labels.write_ids.Statement.{statement}
 use Rattle.checker.proofs.labels.write_ids.Tie as tie
@@ -45,7 +46,8 @@ cast-ids : tie.Need-cast-ids Inv-loop μ-loop
 cast-ids c =
     let start = c .before .before .before .before in
     let at = c .before .before .before .loop in
-    omega (arith, fine-in (start .args .t1) (start .pre .0) (at .i) (omega arith) .id-high, ap (λ (w : Row). w .id) (row-in (start .args .t1) (start .pre .0) (at .i) (omega arith)))
+    let f : Fine (getD (start .args .t1 .rows) (at .i) noRow) = rw (row-in (start .args .t1) (start .pre .0) (at .i) (omega arith)) at (fine-in (start .args .t1) (start .pre .0) (at .i) (omega arith)) in
+    omega (arith, f)
 
 slice-write-ids : tie.Need-slice-write-ids Inv-loop μ-loop
 slice-write-ids c = search needs
