@@ -57,20 +57,22 @@
  *     3  the smaller deadline as written in the table
  *     4  the earlier point in time at which the job's deadline falls
  *
- * What a call costs, measured on one core of an x86-64 server:
+ * What a call costs. Times are measured, not proved: on one core of an x86-64
+ * server, the first call with each table, as at a keystroke. host/slowest.c
+ * measures them on another machine.
  *
- * - Stack: at most 8,192 bytes (OTTER_STACK_MOST), whatever the arguments.
- *   Nothing is allocated.
- * - Reading the table: at most 10 microseconds, also where it is refused.
- *   otter_ids costs no more than that.
+ * - Stack: at most 8,192 bytes (OTTER_STACK_MOST). Nothing is allocated.
+ * - Reading the table: 5 to 20 microseconds, also where it is refused; up to
+ *   100 were seen. otter_ids does no more than that.
  * - Each slot up to the verdict or to the end of the lent slots: mostly a few
  *   nanoseconds or less, since nothing is spent on a slot in which nothing
- *   happens, and at most 70. What costs most is many rows with short, unlike
- *   periods under policy 4: a release and a completion in almost every slot,
- *   in no order that the processor could learn. So plan with 100 ns for each
- *   slot of the allowance: 1,000,000 slots take at most 0.1 s, 10,000,000 at
- *   most a second, and 2^48 may take months; but tables that need more than
- *   10,000,000 slots are rare.
+ *   happens. What costs most is many rows with short, unlike periods, most of
+ *   all under policy 4: a release and a completion in almost every slot, in no
+ *   order that the processor could learn. Half of such tables take 15 ns a
+ *   slot, 99 of 100 at most 40, and 68 were seen. So plan with 100 ns for each
+ *   slot of the allowance, 0.1 s for 1,000,000 and a second for 10,000,000.
+ *   2^48 may take months; but tables that need more than 10,000,000 slots are
+ *   rare.
  */
 #ifndef OTTERSPRAWL_H
 #define OTTERSPRAWL_H

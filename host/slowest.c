@@ -1,8 +1,10 @@
 /*
- * What a slot costs at most: tables of many rows with short periods, by
- * chance, each asked once under every policy. The first call counts, as at a
+ * What the header says of time, measured: reading a table, and a slot of the
+ * tables that cost most, those of many rows with short periods. Tables are
+ * made by chance, and each call is the first one of its table, as at a
  * keystroke: when a table is asked again, the processor has learnt its order.
- * Prints the costliest table that it finds. No timing decides anything.
+ * A single call cannot be repeated, so its time has all that disturbed it in
+ * it, and the largest differs from run to run. No timing decides anything.
  *
  *     slowest [TABLES]
  */
@@ -18,6 +20,8 @@
 
 enum {
     POLICIES = 4,
+    TABLES_MOST = 100000,
+    TEXT_ROWS_MOST = 200, /* what over 4,096 bytes is cut off */
     LONG_PERIOD = 3125,   /* with short periods, H is up to 100,000 then */
     SLOTS_LEAST = 20000   /* so that reading the text does not count */
 };
@@ -27,6 +31,13 @@ static const uint64_t allowance = 1000000;
 static const uint32_t short_periods[] = { 4, 5, 8, 10, 16, 16, 16, 20, 25, 32, 32, 40, 50, 80 };
 enum { SHORT_PERIODS = sizeof short_periods / sizeof short_periods[0] };
 
+/* ---- Times ---- */
+
+struct times {
+    size_t count;
+    double ns[POLICIES * TABLES_MOST];
+};
+
 /* Processor time: other programs on the machine do not count. */
 static double now_ns(void)
 {
@@ -34,6 +45,55 @@ static double now_ns(void)
     clock_gettime(CLOCK_PROCESS_CPUTIME_ID, &now);
     return (double)now.tv_sec * 1e9 + (double)now.tv_nsec;
 }
+
+static int compare_times(const void *a, const void *b)
+{
+    const double *x = a, *y = b;
+    return (*x > *y) - (*x < *y);
+}
+
+static void print_times(const char *what, struct times *times)
+{
+    size_t count = times->count;
+    if (count == 0)
+        return;
+    qsort(times->ns, count, sizeof times->ns[0], compare_times);
+    printf("%s, %zu first calls: half take at most %.1f ns, 99 of 100 at most %.1f, the largest %.1f\n",
+           what, count, times->ns[(count - 1) / 2], times->ns[(count - 1) * 99 / 100],
+           times->ns[count - 1]);
+}
+
+/* ---- Reading ---- */
+
+/* Rows without sense: sixteen, which are checked, or more, which are counted. */
+static void long_text(struct random *random, struct text *text)
+{
+    struct ref_row rows[TEXT_ROWS_MOST];
+    const struct writing writing = { random_bits(random), 1 };
+    uint32_t count = random_chance(random, 50) ? REF_ROWS_MOST
+                                               : random_between(random, 17, TEXT_ROWS_MOST);
+    for (uint32_t i = 0; i < count; i++) {
+        uint32_t period = random_between(random, 1, REF_TIME_MOST);
+        const struct ref_row row = { random_between(random, 1, REF_ID_MOST),
+                                     random_below(random, REF_TIME_MOST), 1, period, period,
+                                     random_below(random, 100), 0,
+                                     random_between(random, 1, REF_PRIORITY_MOST) };
+        rows[i] = row;
+    }
+    write_text(text, rows, count, writing);
+    if (text->length > REF_TEXT_MOST)
+        text->length = REF_TEXT_MOST;
+}
+
+/* With allowance 0 nothing is done but reading. */
+static void time_reading(const struct text *text, struct times *times)
+{
+    double before = now_ns();
+    otter_verdict(1, 0, text->bytes, text->length);
+    times->ns[times->count++] = now_ns() - before;
+}
+
+/* ---- Slots ---- */
 
 static struct ref_row short_row(struct random *random, uint32_t id)
 {
@@ -56,39 +116,33 @@ static void short_table(struct random *random, struct text *text)
     write_text(text, rows, count, plain_writing);
 }
 
-/* Nanoseconds for each slot; 0 where the table is soon decided. */
-static double slot_ns(uint32_t policy, const struct text *text)
+/* Counts where the table is not soon decided. */
+static void time_slots(uint32_t policy, const struct text *text, struct times *times)
 {
     double before = now_ns();
     uint64_t reply = otter_verdict(policy, allowance, text->bytes, text->length);
     double ns = now_ns() - before;
     uint64_t slots = otter_kind(reply) == OTTER_UNDECIDED ? allowance : otter_number(reply);
-    return otter_kind(reply) == OTTER_REFUSED || slots < SLOTS_LEAST ? 0 : ns / (double)slots;
+    if (otter_kind(reply) != OTTER_REFUSED && slots >= SLOTS_LEAST)
+        times->ns[times->count++] = ns / (double)slots;
 }
 
 int main(int argc, char **argv)
 {
+    static struct times reading, slots;
+    static struct text text;
     uint64_t tables = argc > 1 ? strtoull(argv[1], NULL, 10) : 3000;
-    static struct text text, costliest;
-    uint32_t its_policy = 0;
-    double most = 0, sum = 0;
-    uint64_t counted = 0;
+    if (tables > TABLES_MOST)
+        tables = TABLES_MOST;
     for (uint64_t i = 0; i < tables; i++) {
         struct random random = random_start(1, i);
+        long_text(&random, &text);
+        time_reading(&text, &reading);
         short_table(&random, &text);
-        for (uint32_t policy = 1; policy <= POLICIES; policy++) {
-            double ns = slot_ns(policy, &text);
-            counted += ns > 0;
-            sum += ns;
-            if (ns > most) {
-                most = ns;
-                its_policy = policy;
-                costliest = text;
-            }
-        }
+        for (uint32_t policy = 1; policy <= POLICIES; policy++)
+            time_slots(policy, &text, &slots);
     }
-    printf("%" PRIu64 " verdicts of %d slots and more: %.1f ns a slot, at most %.1f, policy %" PRIu32
-           "\n%.*s\n", counted, SLOTS_LEAST, counted ? sum / (double)counted : 0, most, its_policy,
-           (int)costliest.length, (const char *)costliest.bytes);
+    print_times("reading", &reading);
+    print_times("a slot", &slots);
     return EXIT_SUCCESS;
 }

@@ -8,6 +8,8 @@
 # SHOW  the program to test (build/show beside this script if not given)
 #
 # shown/NAME.txt is what shown/NAME.csv has to print. To add a case, add both.
+# The prints were made with reference.c in place of the checker, which prints
+# the same.
 set -u
 
 here=$(cd "$(dirname "$0")" && pwd)

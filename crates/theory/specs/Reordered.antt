@@ -2,14 +2,15 @@
 -- and two replies that meet a contract are equal, with what they leave in lent memory (`verdict-same` and so on). With `perm-alike` this
 -- is "Reordering the rows changes no reply", of whatever was read; `Texts` has it of texts.
 use mathlib.Core.Path.{_≡_, sym, ap, subst, _∙_}
-use mathlib.Core.List.{List}
+use mathlib.Core.List.{List, _++_, map}
 use Prim.Native.Nat.{ℕ}
-use lib.ListN.{length}
+use lib.ListN.{length, drop}
 use Rattle.rules.specs.declared.Row.{Row}
 use Rattle.rules.specs.declared.Refusal.{Refusal}
 use Rattle.rules.specs.declared.Verdict.{Verdict}
 use Rattle.rules.specs.declared.ScheduleReply.{ScheduleReply}
 use Rattle.rules.specs.declared.WriteReply.{WriteReply}
+use Rattle.rules.specs.declared.WriteReply.the-variants.{Written}
 use Rattle.rules.specs.Table.{omax, hyper}
 use Rattle.rules.specs.Sources.{Source}
 use Rattle.rules.specs.Checks.{check, refusalOf, policyWrong, tooFew, slotsWrong, slotsRefusal, idsRefusal}
@@ -77,7 +78,8 @@ module _ (s t : Source) (alike : Alike s t) where
         written = λ e.
             let same = alike .tasks (check-none 1 (tooFew (length before)) (refusalOf s) e .1) in
             let rows : length (s .rows) ≡ length (t .rows) = sym (canonical-length (s .rows)) ∙ ap (λ (ws : List Row). length ws) same ∙ canonical-length (t .rows) in
-            rw (rows, same) at (u .written e);
+            subst (λ (n : ℕ). (r ≡ Written n) × (after ≡ idsOf t ++ drop (length (idsOf t)) before)) rows
+            (subst (λ (ws : List Row). (r ≡ Written (length (s .rows))) × (after ≡ map (λ (w : Row). w .id) ws ++ drop (length (map (λ (w : Row). w .id) ws)) before)) same (u .written e));
       })
 
   -- SO THE REPLIES ARE EQUAL, with what they leave in lent memory
