@@ -1,5 +1,7 @@
 // The C boundary: the replies of the checker as thin extern "C" functions over numbers and slices. Any arguments have a reply:
 // no function here requires anything. host/ottersprawl.h declares them for C.
+#![tactic(auto)]
+
 ghost use Rattle.rules.specs.Sources.{text_source};
 ghost use Rattle.boundary.specs.Crossing.{VerdictCrosses, ResponsesCross, ScheduleCrosses, AsRunCrosses, IdsCross};
 
@@ -34,7 +36,7 @@ pub extern "C" fn otter_responses(
     if responses.len() < RESPONSES_LEN {
         return pack::refused(table::BUFFER_WRONG);
     }
-    let source = csv::read_rows(text);
+    let source = table_csv::read_rows(text);
     let mut numbers = [0u32; 16];
     let v = checker::responses_of(policy, allowance, source, &mut numbers);
     if checker::accepted(v) {

@@ -5,6 +5,8 @@
 // In a text round brackets stand around a row, and in them a blank for its comma: (1 0 2 5 5 1 1 1). After a backslash h stands
 // for the header with its line end, m for ten rows, c for a hundred zeros, r, n, t, 0 and x for CR, LF, tab, NUL and byte 255,
 // any other byte for itself.
+#![tactic(auto)]
+
 ghost use Rattle.std.specs.Prelude.{◌-◌, ◌≤◌, length};
 
 use libc::STDOUT_FILENO;

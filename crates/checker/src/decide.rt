@@ -6,7 +6,7 @@ ghost use Rattle.checker.specs.Outcomes.{accepted_of, Outcomes, Wrote};
 use rules::{Table, Verdict};
 
 // The verdict, and the longest responses up to it.
-#[derive(Drop)]
+#[derive(Clone, Copy)]
 pub struct Outcome {
     pub verdict: Verdict,
     pub worst: [u32; 16],

@@ -1,6 +1,8 @@
 // The checker: verdict, responses, schedule and as run, the four replies of the product, and ids, each over whatever a reader hands over
 // and over a text. Whatever the input, each has a reply, and its contract is the definition of the rules. The C boundary and the
 // programs use it.
+#![tactic(auto)]
+
 ghost use Rattle.rules.specs.Sources.{text_source, source_of};
 ghost use Rattle.rules.specs.Verdicts.{VerdictIs, ResponsesAre};
 ghost use Rattle.rules.specs.Schedules.{ScheduleIs, AsRunIs};
@@ -122,13 +124,13 @@ pub fn ids_of(source: RowsRead, ids: &mut [u8]) -> WriteReply
 pub fn verdict(policy: u32, allowance: u64, text: &[u8]) -> Verdict
     ensures { VerdictIs policy allowance (text_source text.now) result }
 {
-    verdict_of(policy, allowance, csv::read_rows(text))
+    verdict_of(policy, allowance, table_csv::read_rows(text))
 }
 
 pub fn responses(policy: u32, allowance: u64, text: &[u8], numbers: &mut [u32]) -> Verdict
     ensures { ResponsesAre policy allowance (text_source text.now) numbers.old numbers.new result }
 {
-    responses_of(policy, allowance, csv::read_rows(text), numbers)
+    responses_of(policy, allowance, table_csv::read_rows(text), numbers)
 }
 
 pub fn as_run(
@@ -140,17 +142,23 @@ pub fn as_run(
 ) -> ScheduleReply
     ensures { AsRunIs policy (text_source text.now) requests.now loadings.now slots.old slots.new result }
 {
-    as_run_of(policy, csv::read_rows(text), requests, loadings, slots)
+    as_run_of(
+        policy,
+        table_csv::read_rows(text),
+        requests,
+        loadings,
+        slots,
+    )
 }
 
 pub fn schedule(policy: u32, text: &[u8], slots: &mut [u8]) -> ScheduleReply
     ensures { ScheduleIs policy (text_source text.now) slots.old slots.new result }
 {
-    schedule_of(policy, csv::read_rows(text), slots)
+    schedule_of(policy, table_csv::read_rows(text), slots)
 }
 
 pub fn ids(text: &[u8], ids: &mut [u8]) -> WriteReply
     ensures { IdsAre (text_source text.now) ids.old ids.new result }
 {
-    ids_of(csv::read_rows(text), ids)
+    ids_of(table_csv::read_rows(text), ids)
 }

@@ -14,7 +14,7 @@ pub fn tagged(x: u64, i: usize) -> u64
 
 // A new job: what it is to have; the next release, with its row; its deadline, and its key with its row, NEVER if it has nothing to
 // execute.
-#[derive(Drop)]
+#[derive(Clone, Copy)]
 pub struct Joined {
     pub need: Executed,
     pub release: u64,

@@ -1,6 +1,8 @@
 // The machine: the loop that goes from event to event through a run of a table, with its state, its marks and the bytes it paints.
 // It serves every reply: verdict and responses lend it no bytes and no lists, and a profile brings another system. The checker makes
 // replies of where it stopped.
+#![tactic(auto)]
+
 ghost use Rattle.std.specs.Prelude.{◌≡◌, ◌⊎◌, ◌-◌, ◌≤◌, get_or, length};
 ghost use Rattle.rules.specs.Table.{no_row};
 ghost use Rattle.slots.specs.Jobs.{never};
@@ -18,7 +20,7 @@ mod turn;
 
 // Where a run stopped, and why: at a miss, which is of row i if it is i + 1; or at a mark with the state of the mark before; or, with
 // neither, at its end. And the longest responses so far.
-#[derive(Drop)]
+#[derive(Clone, Copy)]
 pub struct Stop {
     pub worst: [u32; 16],
     pub time: u64,
@@ -71,7 +73,7 @@ pub fn run(
     slots: &mut [u8],
 ) -> Stop
     requires sound { Sound t }
-    requires fact { (first ≡ never) ⊎ (first ≡ t.omax) }
+    requires first_mark { (first ≡ never) ⊎ (first ≡ t.omax) }
     requires end_bound { end ≤ 281474976710656 }
     ensures ran { Ran policy t requests.now loadings.now first end result }
     ensures painted_run { PaintedRun policy t requests.now loadings.now 0 result.time slots.old slots.new }

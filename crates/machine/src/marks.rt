@@ -5,7 +5,7 @@ ghost use Rattle.machine.specs.Machine.{Alike};
 
 use rules::{Executed, Loading};
 
-#[derive(Drop)]
+#[derive(Clone, Copy)]
 pub struct Mark {
     pub executed: [Executed; 16],
     pub last: usize,
@@ -35,7 +35,7 @@ fn same_count(a: Executed, b: Executed, ok: bool) -> bool
 pub fn same(rows: usize, a: Mark, b: Mark) -> bool
     requires { rows ≤ 16 }
     ensures alike { result ≡ true → Alike rows a b }
-    ensures fact { result ≡ false → Alike rows a b → ⊥ }
+    ensures unlike { result ≡ false → Alike rows a b → ⊥ }
 {
     let mut ok = true;
     let mut i: usize = 0;

@@ -8,7 +8,7 @@ use rules::{Executed, Loading, Table};
 // deadline and the key by which it goes first, and NEVER once it is complete; what it is to have and what it has executed; the
 // longest response of the task's jobs. Releases and keys carry their row. Then the least of releases, deadlines and keys. asked and
 // begun are places in the lists.
-#[derive(Drop)]
+#[derive(Clone, Copy)]
 pub struct State {
     pub release: [u64; 16],
     pub due: [u64; 16],

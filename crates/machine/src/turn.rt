@@ -5,7 +5,7 @@ ghost use Rattle.machine.specs.Turns.{load_of};
 use rules::{Executed, Loading, Row};
 
 // The loading to do, and the place in the list of loadings after it.
-#[derive(Drop)]
+#[derive(Clone, Copy)]
 pub struct ToLoad {
     pub slots: Loading,
     pub begun: usize,

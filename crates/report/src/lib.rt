@@ -1,4 +1,6 @@
 // What the table program prints: a text's replies under the four policies, as four lines of bytes. The program tablecheck uses it.
+#![tactic(auto)]
+
 ghost use Rattle.std.specs.Prelude.{◌≡◌, ◌+◌, ◌≤◌, length};
 ghost use Rattle.io.specs.Counts.{IsPrefixLen};
 ghost use Rattle.report.specs.Lines.{decimal, field, word_of, number_of, place_of, line_of};

@@ -1,5 +1,7 @@
 // What one task has part in during a slot, or during many slots in which nothing changes hands: small functions on a row and on
 // numbers, by value. They are total: none asks anything of its arguments. The checker's loop is made of them.
+#![tactic(auto)]
+
 ghost use Rattle.std.specs.Prelude.{◌≡◌, ◌-◌, min, max, get_or};
 ghost use Rattle.slots.specs.Jobs.{used_of, missed_of, key_of, worked_of, open_of, continues_of, delay_of, begun_of, begins_of};
 

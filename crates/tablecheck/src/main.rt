@@ -1,6 +1,8 @@
 // The table program: reads a table from standard input and prints its replies under the four policies. Bytes past the 4,097th make no
 // difference: so long a text is refused whatever they are. Where reading or writing fails it says so on standard error and prints no
 // reply; a program here has no exit status, so ./tablecheck looks for the four lines.
+#![tactic(auto)]
+
 use libc::{STDERR_FILENO, STDIN_FILENO, STDOUT_FILENO};
 
 // What was read is all there is, or enough: a read that comes after the last one ends or goes on, and does not fail.

@@ -93,7 +93,8 @@ module _ (y : System) (short : Short y) (h : ℕ) (turn : Turn y h) where
       → missed y (t + h) (schedule y (t + h)) ≡ missed y t (schedule y t)
   miss_same t o m = sym (agree_all (λ i. 0) (λ i. 0) (on_time y t (schedule y t)) (on_time y (t + h) (schedule y (t + h))) y.tasks
       (λ i k e. kept_same i k ∙ e) (λ i j a b u v. (λ e. e, λ e. e)) (λ i k e. sym (kept_same i k) ∙ e)
-      (missed y t (schedule y t)) (missed y (t + h) (schedule y (t + h))) (pick_first _ _ y.tasks) (pick_first _ _ y.tasks))
+      (missed y t (schedule y t)) (missed y (t + h) (schedule y (t + h))) (pick_first (λ i. 0) (on_time y t (schedule y t)) y.tasks)
+      (pick_first (λ i. 0) (on_time y (t + h) (schedule y (t + h))) y.tasks))
     where
       same : (i : ℕ) → i < y.tasks → complete (schedule y t) i ≡ complete (schedule y (t + h)) i
       same = done_same y.tasks (schedule y t) (schedule y (t + h)) (λ i. full y t i ∙ sym (full y (t + h) i)) m

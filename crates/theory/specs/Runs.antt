@@ -95,7 +95,7 @@ module _ (y : System) (free : Free y) (quick : Quick y) (c : ℕ → Choice) whe
   finishes t = rw (add-zero t) at (done_sooner y free quick 0 (no_turn y) c t)
 
   pub meets : (t : ℕ) → missed y t (schedule y t) ≡ 0 → missed y t (run y c t) ≡ 0
-  meets t e = go (missed y t (run y c t)) (pick_first _ _ y.tasks) (rw e at (pick_first (λ i. 0) (on_time y t (schedule y t)) y.tasks))
+  meets t e = go (missed y t (run y c t)) (pick_first (λ i. 0) (on_time y t (run y c t)) y.tasks) (rw e at (pick_first (λ i. 0) (on_time y t (schedule y t)) y.tasks))
     where
       on_time_lem : (i : ℕ) → on_time y t (schedule y t) i ≡ true → on_time y t (run y c t) i ≡ true
       on_time_lem i = test (due (y.row i) t) (λ q k. rw q (finishes t i (rw q at k))) (λ q k. rw q refl)

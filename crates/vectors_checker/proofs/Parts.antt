@@ -2,7 +2,7 @@
 use mathlib.Core.Path.{◌≡◌}
 use Prim.Native.Nat.{ℕ, ◌≤◌}
 use lib.ListN.{length, take, replicate, length-replicate}
-use Rattle.csv.proofs.Fields.{part_count}
+use Rattle.table_csv.proofs.Fields.{part_count}
 
 -- the first of equal numbers
 pub some_of : (n m a : ℕ) → n ≤ m → n ≡ length (take n (replicate m a))

@@ -11,6 +11,8 @@
 // The crate cases says how a text is written. A slot is written as its id and a letter for its kind: i idle, l loading,
 // e executing, m from the miss on, ? for a byte that is no kind. Where not every slot is written, or the length is odd, a sum
 // over all bytes follows.
+#![tactic(auto)]
+
 ghost use Rattle.std.specs.Prelude.{◌≤◌, ◌<◌};
 
 use cases::{before, behind, fitting, put, word};

@@ -1,6 +1,8 @@
 // Runs the reader and the checks over texts whose replies document 01 settles. Each line of standard input is a reason, a bar and a
 // text; for each it writes the reason, and number and place of the refusal, or 0 0, the count of rows, Omax, H and the ids in
 // order. The crate cases says how a text is written. No crate uses it.
+#![tactic(auto)]
+
 use cases::put;
 use libc::STDIN_FILENO;
 use rules::{Row, Table};
@@ -28,7 +30,7 @@ fn put_ids(t: Table) {
 
 // The reply to a text.
 fn reply(text: &[u8]) {
-    let r = table::check(1, false, csv::read_rows(text));
+    let r = table::check(1, false, table_csv::read_rows(text));
     let f = r.refusal;
     put(f.number as u64);
     put(f.place);
