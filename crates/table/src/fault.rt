@@ -69,6 +69,7 @@ fn count_of(n: u32, x: u32, t: RowsRead) -> usize
 }
 
 // Check n, 6 to 12, fails at the row r.
+#[tactic(auto, unfolding(rules::specs::Checks::fault))]
 fn fault_at(n: u32, t: RowsRead, r: Row) -> bool
     requires { t.count ≤ 16 }
     ensures { result ≡ fault n (take t.count t.rows) r }

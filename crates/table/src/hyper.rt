@@ -20,6 +20,7 @@ fn divisor(h: u32, p: u32) -> u32
 }
 
 // The least common multiple, if it is at most 100,000; else 100,001.
+#[tactic(auto, using(crate::proofs::Multiples::quotient_found, crate::proofs::Multiples::quotient_none))]
 fn multiple(h: u32, p: u32) -> u32
     requires { (0 < h) × (0 < p) × (h * p ≤ 4294967295) }
     ensures { result ≡ common_of h p }
