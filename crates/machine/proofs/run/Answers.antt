@@ -1,0 +1,131 @@
+-- The loop over events. Each way through a turn is a law of `Going` and is cited once, for both goals of it: the measure falls, and the
+-- invariant holds again.
+use Rattle.std.proofs.Common.{◌≡◌, ◌≢◌, ◌∙◌, ap, ℕ, ◌+◌, ◌-◌, ◌*◌, ◌/◌, ◌≤◌, ◌<◌, arith}
+use Rattle.slots.specs.Jobs.{worked_of}
+use Rattle.machine.specs.declared.state.State.{State}
+use Rattle.machine.proofs.Places.{Head, Going, Turning, Onward, OneMore}
+use Rattle.machine.proofs.Going.{going_start, ran_missed, ran_repeats, onward_marked, ran_through, joins_start, one_more, until_stop, onward_idle, serving, onward_goes, onward_ends}
+use Rattle.machine.proofs.run.Goals as goal
+use Rattle.machine.proofs.run.Goals.{After-slice_known-then-s-1, After-least, After-minus-then-stop-full, After-least-in-loop-s}
+
+-- ARITHMETIC
+
+measure_joins : (u next n : ℕ) → next / 16 ≡ u → next < n → (u + 1) * 16 - n < (u + 1) * 16 - next
+measure_joins u next n e h = omega arith
+
+less_most : {a b : ℕ} → a < b → a ≤ b
+less_most h = omega arith
+
+-- THE WAYS through a turn, each with what both of its goals ask. `abbrev`, for both heads are found from the law
+
+-- nothing is missed, no mark and no end is now
+turning : {h : Head} → Going h → h.state.soonest ≢ h.time → h.mark ≢ h.time → h.time ≢ h.end → Turning h
+turning going on_time later more = record { going = going; on_time = on_time; later = later; more = more }
+
+abbrev Way : Type 0
+Way = (from : Head) × (to : Head) × Onward from to
+
+-- THE FIRST HEAD
+
+pub loop-s-init : goal.loop-s-init
+loop-s-init c =
+    going_start _ c.requires.sound c.requires.first_mark c.requires.end_bound
+    (c.begin-s.ensures c.args.policy c.args.requests.now c.args.loadings.now) c.before-was.ensures
+
+-- THE ENDS OF THE RUN
+
+pub returns-then-s-time-clause-ran : goal.returns-then-s-time-clause-ran
+returns-then-s-time-clause-ran c = ran_missed c.loop-s.invariant c.if-s-time.true c.overdue-m.ensures
+
+pub returns-then-same-clause-ran : goal.returns-then-same-clause-ran
+returns-then-same-clause-ran c =
+    ran_repeats c.loop-s.invariant c.if-s-time.false c.if-mark-time.true (c.same.ensures.alike c.if-same.true)
+
+pub returns-then-time-end-clause-ran : goal.returns-then-time-end-clause-ran
+returns-then-time-end-clause-ran c = ran_through c.loop-s.invariant c.if-s-time.false c.if-mark-time.false c.if-time-end.true
+
+-- A MARK
+
+pub loop-s-preserved-then-mark-time : goal.loop-s-preserved-then-mark-time
+loop-s-preserved-then-mark-time c =
+    (onward_marked c.loop-s.invariant c.if-s-time.false c.if-mark-time.true (c.same.ensures.unlike c.if-same.false)).going
+
+-- JOBS JOIN
+
+pub loop-s-2-init : goal.loop-s-2-init
+loop-s-2-init c = joins_start (turning c.loop-s.invariant c.if-s-time.false c.if-mark-time.false c.if-time-end.false)
+
+abbrev joins : (c : After-least) → (head : Head) × (from : State) × (to : State) × OneMore head from to
+joins c = (
+  _,
+  _,
+  _,
+  one_more (turning c.loop-s.invariant c.if-s-time.false c.if-mark-time.false c.if-time-end.false) c.loop-s-2.invariant c.loop-s-2-test.true
+      c.entry-ask.ensures c.join-j.ensures _ c.blocks-blocks.ensures.1 c.least.ensures,
+)
+
+pub loop-s-2-smaller : goal.loop-s-2-smaller
+loop-s-2-smaller c = measure_joins _ _ _ c.loop-s-2-test.true (joins c).3.less
+
+pub loop-s-2-preserved : goal.loop-s-2-preserved
+loop-s-2-preserved c = rw (c.used.ensures, c.sooner-in-loop-s-2.ensures, c.sooner.ensures) (joins c).3.joins
+
+-- NOBODY HAS THE SLOTS
+
+pub overflow_sub-stop : goal.overflow_sub-stop
+overflow_sub-stop c =
+    less_most
+    (until_stop (turning c.loop-s.invariant c.if-s-time.false c.if-mark-time.false c.if-time-end.false) c.loop-s-2.invariant c.loop-s-2-test.false
+    c.sooner-in-loop-s.ensures c.sooner-in-loop-s-3.ensures c.sooner-stop.ensures).near.after
+
+abbrev idles : After-slice_known-then-s-1 → Way
+idles c = (
+  _,
+  _,
+  onward_idle
+      (until_stop (turning c.loop-s.invariant c.if-s-time.false c.if-mark-time.false c.if-time-end.false) c.loop-s-2.invariant c.loop-s-2-test.false
+      c.sooner-in-loop-s.ensures c.sooner-in-loop-s-3.ensures c.sooner-stop.ensures)
+      c.if-s.true c.stretch.ensures,
+)
+
+pub loop-s-smaller-then-s : goal.loop-s-smaller-then-s
+loop-s-smaller-then-s c = (idles c).2.less
+
+pub loop-s-preserved-then-s : goal.loop-s-preserved-then-s
+loop-s-preserved-then-s c = (idles c).2.going
+
+-- THE FIRST HAS THEM, and they are painted. It goes on after them
+
+abbrev goes : After-minus-then-stop-full → Way
+goes c =
+    let serves =
+    serving (until_stop (turning c.loop-s.invariant c.if-s-time.false c.if-mark-time.false c.if-time-end.false) c.loop-s-2.invariant c.loop-s-2-test.false
+    c.sooner-in-loop-s.ensures c.sooner-in-loop-s-3.ensures c.sooner-stop.ensures) c.if-s.false c.continues-again.ensures c.load-l.ensures c.finish-full.ensures c.sooner-in-loop-s-4.ensures
+    c.span-d.ensures c.stretch-in-loop-s.ensures in
+    (_, _, onward_goes serves c.if-stop-full.true (c.worked-x.ensures ∙ ap (worked_of _ _) c.minus.ensures) _ c.minus-then-stop-full.ensures)
+
+pub loop-s-smaller-then-stop-full : goal.loop-s-smaller-then-stop-full
+loop-s-smaller-then-stop-full c = (goes c).2.less
+
+pub loop-s-preserved-then-stop-full : goal.loop-s-preserved-then-stop-full
+loop-s-preserved-then-stop-full c = (goes c).2.going
+
+-- Its job is complete with them
+
+abbrev ends : After-least-in-loop-s → Way
+ends c =
+    let serves =
+    serving (until_stop (turning c.loop-s.invariant c.if-s-time.false c.if-mark-time.false c.if-time-end.false) c.loop-s-2.invariant c.loop-s-2-test.false
+    c.sooner-in-loop-s.ensures c.sooner-in-loop-s-3.ensures c.sooner-stop.ensures) c.if-s.false c.continues-again.ensures c.load-l.ensures c.finish-full.ensures c.sooner-in-loop-s-4.ensures
+    c.span-d.ensures c.stretch-in-loop-s.ensures in (
+      _,
+      _,
+      onward_ends serves c.if-stop-full.false c.span.ensures c.minus-took.ensures c.greater.ensures _ c.blocks-blocks.ensures.1 c.without.ensures
+          c.least-in-loop-s.ensures,
+    )
+
+pub loop-s-smaller : goal.loop-s-smaller
+loop-s-smaller c = (ends c).2.less
+
+pub loop-s-preserved : goal.loop-s-preserved
+loop-s-preserved c = (ends c).2.going
