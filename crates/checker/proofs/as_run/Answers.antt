@@ -1,0 +1,11 @@
+-- `as_run` is that of the source which the text is.
+use Rattle.rules.specs.Sources.{text_source, read_of, source_of}
+use Rattle.reordering.specs.Alike.{read_alike}
+use Rattle.theory.specs.Reordered.{as_run_to}
+use Rattle.checker.proofs.as_run.Goals as goal
+
+pub returns : goal.returns
+returns c =
+    let s = text_source c.args.text.now in
+    as_run_to (source_of (read_of s)) s (read_alike s) c.args.requests.now c.args.loadings.now c.args.policy c.args.slots.now _ _
+    (rw c.read_rows.ensures at c.as_run_of.ensures)
