@@ -1,29 +1,41 @@
-// What the programs that run vectors share, and no other crate uses: how a line of input is cut at its bars, how a text is
-// written in it, and how words and numbers are written out. A line is a reason, a bar and a case; a line without a bar is a
-// heading.
+// What the programs that run vectors share, and no other crate uses: how their input is read, how a line of it is cut at its
+// bars, how a text is written in it, and how words and numbers are written out. A line is a reason, a bar and a case; a line
+// without a bar is a heading.
 //
 // In a text round brackets stand around a row, and in them a blank for its comma: (1 0 2 5 5 1 1 1). After a backslash h stands
 // for the header with its line end, m for ten rows, c for a hundred zeros, r, n, t, 0 and x for CR, LF, tab, NUL and byte 255,
 // any other byte for itself.
 #![tactic(auto)]
 
-ghost use Rattle.std.specs.Prelude.{◌-◌, ◌≤◌, length};
+ghost use Rattle.std.specs.Prelude.{◌≡◌, ◌-◌, ◌≤◌, IfOk, IfSome, length, take};
 
-use libc::STDOUT_FILENO;
+use std::alloc::Global;
+use std::io;
+use std::io::Read;
 
 // Room for a text, over the limit of 4,096 bytes.
 pub const ROOM: usize = 5_000;
 
+// INPUT
+
+// The first bytes that the reader gives, up to so many.
+pub fn input<R: Read + Drop>(alloc: Global, reader: R, most: u64) -> io::Result<Vec<u8>>
+    ensures { IfOk result (λ v. IfSome (R.remaining reader) (λ xs. v.items ≡ take most xs)) }
+{
+    let mut bytes = Vec::new(alloc);
+    reader.take(most).read_to_end(&mut bytes)?;
+    Ok(bytes)
+}
+
 // OUTPUT
 
-pub fn word(bytes: &[u8]) {
-    io::write_all(STDOUT_FILENO, bytes);
+pub fn word(rt: &impl Print, bytes: &[u8]) -> io::Result<()> {
+    rt.write_all(bytes)
 }
 
 // A blank and a number.
-pub fn put(x: u64) {
-    word(b" ");
-    io::print_decimal(STDOUT_FILENO, x);
+pub fn put(rt: &impl Print, x: u64) -> io::Result<()> {
+    print!(rt; " {x}")
 }
 
 // PARTS OF A TEXT
@@ -48,14 +60,12 @@ pub fn start(text: &[u8], n: usize) -> &[u8] {
 fn find(text: &[u8], b: u8) -> usize
     ensures { result ≤ length text.now }
 {
-    let mut i: usize = 0;
-    while i < text.len() {
-        if text[i] == b {
+    for (i, x) in text.iter().enumerate() {
+        if *x == b {
             return i;
         }
-        i += 1;
     }
-    i
+    text.len()
 }
 
 // Those and the b itself, if there is one: at least one byte, if there is any.
@@ -85,13 +95,13 @@ pub fn behind(text: &[u8], b: u8) -> &[u8]
 // A LINE
 
 // Writes a line's reason, and an arrow if a bar follows; whether one does.
-pub fn reason(line: &[u8]) -> bool {
-    word(before(line, b'|'));
+pub fn reason(rt: &impl Print, line: &[u8]) -> io::Result<bool> {
+    word(rt, before(line, b'|'))?;
     if find(line, b'|') < line.len() {
-        word(b" ->");
-        return true;
+        word(rt, b" ->")?;
+        return Ok(true);
     }
-    false
+    Ok(false)
 }
 
 // A WRITTEN TEXT, put into the buffer from a place on, as far as there is room; the place after it
@@ -106,10 +116,8 @@ fn push(buffer: &mut [u8; ROOM], at: usize, b: u8) -> usize {
 
 fn append(buffer: &mut [u8; ROOM], from: usize, part: &[u8]) -> usize {
     let mut at = from;
-    let mut i: usize = 0;
-    while i < part.len() {
-        at = push(buffer, at, part[i]);
-        i += 1;
+    for b in part {
+        at = push(buffer, at, *b);
     }
     at
 }
@@ -124,10 +132,8 @@ fn header(buffer: &mut [u8; ROOM], at: usize) -> usize {
 
 fn ten_rows(buffer: &mut [u8; ROOM], from: usize) -> usize {
     let mut at = from;
-    let mut i: usize = 0;
-    while i < 10 {
+    for _ in 0..10 {
         at = append(buffer, at, b"1,0,1,2,2,0,0,1\r\n");
-        i += 1;
     }
     at
 }
@@ -219,13 +225,11 @@ pub fn decode(buffer: &mut [u8; ROOM], written: &[u8]) -> usize {
     let mut at: usize = 0;
     let mut escaped = false;
     let mut in_row = false;
-    let mut i: usize = 0;
-    while i < written.len() {
-        let c = written[i];
+    for b in written {
+        let c = *b;
         at = put_byte(buffer, at, escaped, in_row, c);
         in_row = still_in_row(escaped, in_row, c);
         escaped = escapes(escaped, c);
-        i += 1;
     }
     at
 }

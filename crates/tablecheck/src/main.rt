@@ -1,32 +1,48 @@
 // The table program: reads a table from standard input and prints its replies under the four policies. Bytes past the 4,097th make no
-// difference: so long a text is refused whatever they are. Where reading or writing fails it says so on standard error and prints no
-// reply; a program here has no exit status, so ./tablecheck looks for the four lines.
+// difference: so long a text is refused whatever they are. Where reading or writing fails it says so on standard error, prints no
+// reply or not all of it, and ends with status 1. ./tablecheck looks for the four lines.
 #![tactic(auto)]
 
-use libc::{STDERR_FILENO, STDIN_FILENO, STDOUT_FILENO};
+ghost use Rattle.std.specs.Prelude.{◌≡◌, IfOk, IfSome, take};
 
-// What was read is all there is, or enough: a read that comes after the last one ends or goes on, and does not fail.
-fn is_read() -> bool {
-    let mut next = [0u8; 1];
-    libc::read(STDIN_FILENO, &mut next) >= 0
+use std::alloc::Global;
+use std::io;
+use std::io::Read;
+
+// One byte over the longest text, which is all that tells.
+const ENOUGH: u64 = 4_097;
+
+// What is read is all there is, or enough.
+fn read<R: Read + Drop>(alloc: Global, reader: R) -> io::Result<Vec<u8>>
+    ensures { IfOk result (λ text. IfSome (R.remaining reader) (λ xs. text.items ≡ take 4097 xs)) }
+{
+    let mut text = Vec::new(alloc);
+    reader.take(ENOUGH).read_to_end(&mut text)?;
+    Ok(text)
 }
 
-fn main() {
-    let mut input = [0u8; 4097];
-    let n = io::read_full(STDIN_FILENO, &mut input);
-    if !is_read() {
-        io::write_all(
-            STDERR_FILENO,
-            b"tablecheck: standard input cannot be read\n",
-        );
-        return;
+// Hands on what came of a step, and where that is an error says so before.
+fn told<T>(rt: &impl Eprint, came: io::Result<T>, failure: &str) -> io::Result<T>
+    ensures { result ≡ came }
+{
+    if came.is_err() {
+        // The error is handed on whether or not it can be said.
+        let _ = eprintln!(rt; "tablecheck: {failure}");
     }
+    came
+}
+
+fn main(rt: HostRuntime) -> io::Result<()> {
+    let text = told(
+        &rt,
+        read(rt.alloc(), rt.reader()),
+        "standard input cannot be read",
+    )?;
     let mut lines = [0u8; 292];
-    let m = report::report(&input[..n], &mut lines);
-    if !io::write_all(STDOUT_FILENO, &lines[..m]) {
-        io::write_all(
-            STDERR_FILENO,
-            b"tablecheck: standard output cannot be written\n",
-        );
-    }
+    let m = report::report(&text, &mut lines);
+    told(
+        &rt,
+        rt.write_all(&lines[..m]),
+        "standard output cannot be written",
+    )
 }

@@ -16,8 +16,11 @@
 ghost use Rattle.std.specs.Prelude.{◌≤◌, ◌<◌};
 
 use cases::{before, behind, fitting, put, word};
-use libc::STDIN_FILENO;
 use rules::{ScheduleReply, Verdict, WriteReply};
+use std::io;
+
+// The longest input.
+const MOST_INPUT: u64 = 65_536;
 
 // Numbers in a part of a line.
 const NUMBERS: usize = 64;
@@ -30,127 +33,122 @@ const MOST_BYTES: usize = 65_538;
 // Slots that are written one by one.
 const SHOWN: usize = 48;
 
-fn put_missed(time: u64, id: u32) {
-    word(b" missed");
-    put(time);
-    put(id as u64);
+fn put_missed(rt: &impl Print, time: u64, id: u32) -> io::Result<()> {
+    word(rt, b" missed")?;
+    put(rt, time)?;
+    put(rt, id as u64)
 }
 
-fn put_refused(number: u32, place: u64) {
-    word(b" refused");
-    put(number as u64);
-    put(place);
+fn put_refused(rt: &impl Print, number: u32, place: u64) -> io::Result<()> {
+    word(rt, b" refused")?;
+    put(rt, number as u64)?;
+    put(rt, place)
 }
 
-fn put_verdict(v: Verdict) {
+fn put_verdict(rt: &impl Print, v: Verdict) -> io::Result<()> {
     match v {
         Verdict::Accepted(n) => {
-            word(b" accepted");
-            put(n);
+            word(rt, b" accepted")?;
+            put(rt, n)
         }
-        Verdict::Missed { time, id } => put_missed(time, id),
-        Verdict::Undecided => word(b" undecided"),
-        Verdict::Refused { number, place } => put_refused(number, place),
+        Verdict::Missed { time, id } => put_missed(rt, time, id),
+        Verdict::Undecided => word(rt, b" undecided"),
+        Verdict::Refused { number, place } => put_refused(rt, number, place),
     }
 }
 
-fn put_reply(r: ScheduleReply) {
+fn put_reply(rt: &impl Print, r: ScheduleReply) -> io::Result<()> {
     match r {
-        ScheduleReply::Filled => word(b" filled"),
-        ScheduleReply::Missed { time, id } => put_missed(time, id),
-        ScheduleReply::Refused { number, place } => put_refused(number, place),
+        ScheduleReply::Filled => word(rt, b" filled"),
+        ScheduleReply::Missed { time, id } => put_missed(rt, time, id),
+        ScheduleReply::Refused { number, place } => put_refused(rt, number, place),
     }
 }
 
-fn put_written(r: WriteReply) {
+fn put_written(rt: &impl Print, r: WriteReply) -> io::Result<()> {
     match r {
         WriteReply::Written(n) => {
-            word(b" written");
-            put(n);
+            word(rt, b" written")?;
+            put(rt, n)
         }
-        WriteReply::Refused { number, place } => put_refused(number, place),
+        WriteReply::Refused { number, place } => put_refused(rt, number, place),
     }
 }
 
-fn put_kind(kind: u8) {
+fn put_kind(rt: &impl Print, kind: u8) -> io::Result<()> {
     match kind {
-        0 => word(b"i"),
-        1 => word(b"l"),
-        2 => word(b"e"),
-        3 => word(b"m"),
-        _ => word(b"?"),
+        0 => word(rt, b"i"),
+        1 => word(rt, b"l"),
+        2 => word(rt, b"e"),
+        3 => word(rt, b"m"),
+        _ => word(rt, b"?"),
     }
 }
 
-fn put_slot(id: u8, kind: u8) {
-    put(id as u64);
-    put_kind(kind);
+fn put_slot(rt: &impl Print, id: u8, kind: u8) -> io::Result<()> {
+    put(rt, id as u64)?;
+    put_kind(rt, kind)
 }
 
-fn put_slots(slots: &[u8]) {
+fn put_slots(rt: &impl Print, slots: &[u8]) -> io::Result<()> {
     let n = slots.len() / 2;
-    let mut i: usize = 0;
-    while i < n {
+    for i in 0..n {
         if SHOWN <= i {
-            return;
+            return Ok(());
         }
-        put_slot(slots[i * 2], slots[i * 2 + 1]);
-        i += 1;
+        put_slot(rt, slots[i * 2], slots[i * 2 + 1])?;
     }
+    Ok(())
 }
 
 fn mixed(s: u64, b: u8) -> u64 {
     (s % 65_521 * 31 + b as u64 + 1) % 65_521
 }
 
-fn put_sum(slots: &[u8]) {
+fn put_sum(rt: &impl Print, slots: &[u8]) -> io::Result<()> {
     let mut s: u64 = 0;
-    let mut i: usize = 0;
-    while i < slots.len() {
-        s = mixed(s, slots[i]);
-        i += 1;
+    for b in slots {
+        s = mixed(s, *b);
     }
-    word(b" sum");
-    put(s);
+    word(rt, b" sum")?;
+    put(rt, s)
 }
 
-fn put_bytes(slots: &[u8]) {
-    word(b":");
-    put_slots(slots);
+fn put_bytes(rt: &impl Print, slots: &[u8]) -> io::Result<()> {
+    word(rt, b":")?;
+    put_slots(rt, slots)?;
     if SHOWN < slots.len() / 2 {
-        word(b" ..");
-        put_sum(slots);
-        return;
+        word(rt, b" ..")?;
+        return put_sum(rt, slots);
     }
     if slots.len() % 2 == 1 {
-        put_sum(slots);
+        put_sum(rt, slots)?;
     }
+    Ok(())
 }
 
-fn put_number(x: u32) {
-    put(x as u64);
+fn put_number(rt: &impl Print, x: u32) -> io::Result<()> {
+    put(rt, x as u64)
 }
 
-fn put_numbers(numbers: &[u32]) {
-    word(b":");
-    let mut i: usize = 0;
-    while i < numbers.len() {
-        put_number(numbers[i]);
-        i += 1;
+fn put_numbers(rt: &impl Print, numbers: &[u32]) -> io::Result<()> {
+    word(rt, b":")?;
+    for x in numbers {
+        put_number(rt, *x)?;
     }
+    Ok(())
 }
 
-fn put_id(id: u8) {
-    put(id as u64);
+fn put_id(rt: &impl Print, id: u8) -> io::Result<()> {
+    put(rt, id as u64)
 }
 
-fn put_ids(ids: &[u8]) {
-    word(b":");
-    let mut i: usize = 0;
-    while i < ids.len() {
-        put_id(ids[i]);
-        i += 1;
+fn put_ids(rt: &impl Print, ids: &[u8]) -> io::Result<()> {
+    word(rt, b":")?;
+    for id in ids {
+        put_id(rt, *id)?;
     }
+    Ok(())
 }
 
 fn narrow(x: u64) -> u32 {
@@ -162,48 +160,74 @@ fn narrow(x: u64) -> u32 {
 
 // THE CALLS
 
-fn responses_in(policy: u32, allowance: u64, text: &[u8], numbers: &mut [u32]) {
-    put_verdict(checker::responses(policy, allowance, text, numbers));
-    put_numbers(numbers);
+fn responses_in(
+    rt: &impl Print,
+    policy: u32,
+    allowance: u64,
+    text: &[u8],
+    numbers: &mut [u32],
+) -> io::Result<()> {
+    put_verdict(rt, checker::responses(policy, allowance, text, numbers))?;
+    put_numbers(rt, numbers)
 }
 
-fn responses(policy: u32, allowance: u64, text: &[u8], length: u64) {
+fn responses(
+    rt: &impl Print,
+    policy: u32,
+    allowance: u64,
+    text: &[u8],
+    length: u64,
+) -> io::Result<()> {
     let mut numbers = [777u32; 17];
     let n = fitting(length as usize, MOST_ROWS);
-    responses_in(policy, allowance, text, &mut numbers[..n]);
+    responses_in(rt, policy, allowance, text, &mut numbers[..n])
 }
 
-fn schedule_in(policy: u32, text: &[u8], slots: &mut [u8]) {
-    put_reply(checker::schedule(policy, text, slots));
-    put_bytes(slots);
+fn schedule_in(rt: &impl Print, policy: u32, text: &[u8], slots: &mut [u8]) -> io::Result<()> {
+    put_reply(rt, checker::schedule(policy, text, slots))?;
+    put_bytes(rt, slots)
 }
 
-fn schedule(policy: u32, text: &[u8], length: u64) {
+fn schedule(rt: &impl Print, policy: u32, text: &[u8], length: u64) -> io::Result<()> {
     let mut slots = [170u8; 65538];
     let n = fitting(length as usize, MOST_BYTES);
-    schedule_in(policy, text, &mut slots[..n]);
+    schedule_in(rt, policy, text, &mut slots[..n])
 }
 
-fn as_run_in(policy: u32, text: &[u8], requests: &[u32], loadings: &[u32], slots: &mut [u8]) {
-    put_reply(checker::as_run(policy, text, requests, loadings, slots));
-    put_bytes(slots);
+fn as_run_in(
+    rt: &impl Print,
+    policy: u32,
+    text: &[u8],
+    requests: &[u32],
+    loadings: &[u32],
+    slots: &mut [u8],
+) -> io::Result<()> {
+    put_reply(rt, checker::as_run(policy, text, requests, loadings, slots))?;
+    put_bytes(rt, slots)
 }
 
-fn as_run(policy: u32, text: &[u8], length: u64, requests: &[u32], loadings: &[u32]) {
+fn as_run(
+    rt: &impl Print,
+    policy: u32,
+    text: &[u8],
+    length: u64,
+    requests: &[u32],
+    loadings: &[u32],
+) -> io::Result<()> {
     let mut slots = [170u8; 65538];
     let n = fitting(length as usize, MOST_BYTES);
-    as_run_in(policy, text, requests, loadings, &mut slots[..n]);
+    as_run_in(rt, policy, text, requests, loadings, &mut slots[..n])
 }
 
-fn ids_in(text: &[u8], ids: &mut [u8]) {
-    put_written(checker::ids(text, ids));
-    put_ids(ids);
+fn ids_in(rt: &impl Print, text: &[u8], ids: &mut [u8]) -> io::Result<()> {
+    put_written(rt, checker::ids(text, ids))?;
+    put_ids(rt, ids)
 }
 
-fn ids(text: &[u8], length: u64) {
+fn ids(rt: &impl Print, text: &[u8], length: u64) -> io::Result<()> {
     let mut bytes = [170u8; 17];
     let n = fitting(length as usize, MOST_ROWS);
-    ids_in(text, &mut bytes[..n]);
+    ids_in(rt, text, &mut bytes[..n])
 }
 
 // NUMBERS, with one blank between
@@ -252,19 +276,15 @@ fn numbers(part: &[u8], list: &mut [u64; 64]) -> usize
         return 0;
     }
     let mut at: usize = 0;
-    let mut i: usize = 0;
-    while i < part.len() {
-        at = put_digit(list, at, part[i]);
-        i += 1;
+    for c in part {
+        at = put_digit(list, at, *c);
     }
     at + 1
 }
 
 fn narrowed(wide: [u64; 64], list: &mut [u32; 64]) {
-    let mut i: usize = 0;
-    while i < NUMBERS {
+    for i in 0..NUMBERS {
         list[i] = narrow(wide[i]);
-        i += 1;
     }
 }
 
@@ -287,6 +307,7 @@ fn first(part: &[u8]) -> u8 {
 }
 
 fn with_lists(
+    rt: &impl Print,
     policy: u32,
     length: u64,
     text: &[u8],
@@ -294,71 +315,92 @@ fn with_lists(
     asked: usize,
     loadings: [u32; 64],
     begun: usize,
-) {
+) -> io::Result<()> {
     if asked <= NUMBERS {
         if begun <= NUMBERS {
-            as_run(policy, text, length, &requests[..asked], &loadings[..begun]);
+            return as_run(
+                rt,
+                policy,
+                text,
+                length,
+                &requests[..asked],
+                &loadings[..begun],
+            );
         }
     }
+    Ok(())
 }
 
 // Requests, a bar and loadings.
-fn as_run_of(policy: u32, length: u64, text: &[u8], input: &[u8]) {
+fn as_run_of(
+    rt: &impl Print,
+    policy: u32,
+    length: u64,
+    text: &[u8],
+    input: &[u8],
+) -> io::Result<()> {
     let mut requests = [0u32; 64];
     let asked = entries(before(input, b'|'), &mut requests);
     let mut loadings = [0u32; 64];
     let begun = entries(behind(input, b'|'), &mut loadings);
-    with_lists(policy, length, text, requests, asked, loadings, begun);
+    with_lists(rt, policy, length, text, requests, asked, loadings, begun)
 }
 
-fn answer(kind: u8, call: [u64; 64], text: &[u8], input: &[u8]) {
+fn answer(rt: &impl Print, kind: u8, call: [u64; 64], text: &[u8], input: &[u8]) -> io::Result<()> {
     let policy = narrow(call[1]);
     match kind {
-        b'v' => put_verdict(checker::verdict(policy, call[2], text)),
-        b'r' => responses(policy, call[2], text, call[3]),
-        b's' => schedule(policy, text, call[2]),
-        b'a' => as_run_of(policy, call[2], text, input),
-        b'i' => ids(text, call[1]),
-        _ => word(b" no call"),
+        b'v' => put_verdict(rt, checker::verdict(policy, call[2], text)),
+        b'r' => responses(rt, policy, call[2], text, call[3]),
+        b's' => schedule(rt, policy, text, call[2]),
+        b'a' => as_run_of(rt, policy, call[2], text, input),
+        b'i' => ids(rt, text, call[1]),
+        _ => word(rt, b" no call"),
     }
 }
 
-fn with_text(kind: u8, call: [u64; 64], buffer: &[u8; cases::ROOM], n: usize, input: &[u8]) {
-    answer(kind, call, cases::start(buffer, n), input);
+fn with_text(
+    rt: &impl Print,
+    kind: u8,
+    call: [u64; 64],
+    buffer: &[u8; cases::ROOM],
+    n: usize,
+    input: &[u8],
+) -> io::Result<()> {
+    answer(rt, kind, call, cases::start(buffer, n), input)
 }
 
 // A text, and what follows its bar.
-fn with_call(kind: u8, call: [u64; 64], input: &[u8]) {
+fn with_call(rt: &impl Print, kind: u8, call: [u64; 64], input: &[u8]) -> io::Result<()> {
     let mut buffer = [0u8; cases::ROOM];
     let n = cases::decode(&mut buffer, before(input, b'|'));
-    with_text(kind, call, &buffer, n, behind(input, b'|'));
+    with_text(rt, kind, call, &buffer, n, behind(input, b'|'))
 }
 
 // A call, and what follows its bar.
-fn case(input: &[u8]) {
+fn case(rt: &impl Print, input: &[u8]) -> io::Result<()> {
     let mut call = [0u64; 64];
     numbers(before(input, b'|'), &mut call);
-    with_call(first(input), call, behind(input, b'|'));
+    with_call(rt, first(input), call, behind(input, b'|'))
 }
 
-fn line(input: &[u8]) {
-    if cases::reason(input) {
-        case(behind(input, b'|'));
+fn line(rt: &impl Print, input: &[u8]) -> io::Result<()> {
+    if cases::reason(rt, input)? {
+        case(rt, behind(input, b'|'))?;
     }
-    word(b"\n");
+    word(rt, b"\n")
 }
 
-fn lines(input: &[u8]) {
+fn lines(rt: &impl Print, input: &[u8]) -> io::Result<()> {
     let mut t = input;
     while 0 < t.len() {
-        line(before(t, b'\n'));
+        line(rt, before(t, b'\n'))?;
         let rest = behind(t, b'\n');
         t = rest;
     }
+    Ok(())
 }
 
-fn main() {
-    let mut buffer = [0u8; 65536];
-    let n = io::read_full(STDIN_FILENO, &mut buffer);
-    lines(&buffer[..n]);
+fn main(rt: HostRuntime) -> io::Result<()> {
+    let input = cases::input(rt.alloc(), rt.reader(), MOST_INPUT)?;
+    lines(&rt, &input)
 }

@@ -4,70 +4,72 @@
 #![tactic(auto)]
 
 use cases::put;
-use libc::STDIN_FILENO;
 use rules::{Row, Table};
+use std::io;
+
+// The longest input.
+const MOST: u64 = 32_768;
 
 fn wide(x: usize) -> u64 {
     x as u64
 }
 
-fn put_id(r: Row) {
-    put(r.id as u64);
+fn put_id(rt: &impl Print, r: Row) -> io::Result<()> {
+    put(rt, r.id as u64)
 }
 
-fn put_ids(t: Table) {
-    let n = t.count;
-    let mut i: usize = 0;
-    while i < n {
+fn put_ids(rt: &impl Print, t: Table) -> io::Result<()> {
+    for i in 0..t.count {
         if Table::MAX_ROWS <= i {
-            return;
+            return Ok(());
         }
         let r = t.rows[i];
-        put_id(r);
-        i += 1;
+        put_id(rt, r)?;
     }
+    Ok(())
 }
 
 // The reply to a text.
-fn reply(text: &[u8]) {
+fn reply(rt: &impl Print, text: &[u8]) -> io::Result<()> {
     let r = table::check(1, false, table_csv::read_rows(text));
     let f = r.refusal;
-    put(f.number as u64);
-    put(f.place);
+    put(rt, f.number as u64)?;
+    put(rt, f.place)?;
     if f.number == 0 {
         let t = r.table;
-        put(wide(t.count));
-        put(t.omax as u64);
-        put(t.hyper as u64);
-        put_ids(t);
+        put(rt, wide(t.count))?;
+        put(rt, t.omax as u64)?;
+        put(rt, t.hyper as u64)?;
+        put_ids(rt, t)?;
     }
+    Ok(())
 }
 
-fn reply_start(buffer: &[u8; cases::ROOM], n: usize) {
-    reply(cases::start(buffer, n));
+fn reply_start(rt: &impl Print, buffer: &[u8; cases::ROOM], n: usize) -> io::Result<()> {
+    reply(rt, cases::start(buffer, n))
 }
 
 // A line of input: the reason, a bar and the text.
-fn line(input: &[u8]) {
-    if cases::reason(input) {
+fn line(rt: &impl Print, input: &[u8]) -> io::Result<()> {
+    if cases::reason(rt, input)? {
         let mut buffer = [0u8; cases::ROOM];
         let n = cases::decode(&mut buffer, cases::behind(input, b'|'));
-        reply_start(&buffer, n);
+        reply_start(rt, &buffer, n)?;
     }
-    cases::word(b"\n");
+    cases::word(rt, b"\n")
 }
 
-fn lines(input: &[u8]) {
+fn lines(rt: &impl Print, input: &[u8]) -> io::Result<()> {
     let mut t = input;
     while 0 < t.len() {
-        line(cases::before(t, b'\n'));
+        line(rt, cases::before(t, b'\n'))?;
         let rest = cases::behind(t, b'\n');
         t = rest;
     }
+    Ok(())
 }
 
-fn main() {
-    let mut buffer = [0u8; 32768];
-    let n = io::read_full(STDIN_FILENO, &mut buffer);
-    lines(&buffer[..n]);
+fn main(rt: HostRuntime) -> io::Result<()> {
+    let input = cases::input(rt.alloc(), rt.reader(), MOST)?;
+    lines(&rt, &input)
 }
