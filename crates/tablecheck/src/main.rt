@@ -1,6 +1,6 @@
 // The table program: reads a table from standard input and prints its replies under the four policies. Bytes past the 4,097th make no
-// difference: so long a text is refused whatever they are. Where reading or writing fails it says so on standard error, prints no
-// reply or not all of it, and ends with status 1. ./tablecheck looks for the four lines.
+// difference: so long a text is refused whatever they are. Where reading fails it says so on standard error and prints no reply, and
+// where writing fails it says that; both end it with status 1. ./tablecheck looks for the four lines besides.
 #![tactic(auto)]
 
 ghost use Rattle.std.specs.Prelude.{◌≡◌, IfOk, IfSome, take};
@@ -12,12 +12,12 @@ use std::io::Read;
 // One byte over the longest text, which is all that tells.
 const ENOUGH: u64 = 4_097;
 
-// What is read is all there is, or enough.
-fn read<R: Read + Drop>(alloc: Global, reader: R) -> io::Result<Vec<u8>>
-    ensures { IfOk result (λ text. IfSome (R.remaining reader) (λ xs. text.items ≡ take 4097 xs)) }
+// What is read is all there is, or the first bytes, so many as are enough.
+fn read<R: Read + Drop>(alloc: Global, reader: R, enough: u64) -> io::Result<Vec<u8>>
+    ensures { IfOk result (λ text. IfSome (R.remaining reader) (λ xs. text.items ≡ take enough xs)) }
 {
     let mut text = Vec::new(alloc);
-    reader.take(ENOUGH).read_to_end(&mut text)?;
+    reader.take(enough).read_to_end(&mut text)?;
     Ok(text)
 }
 
@@ -35,7 +35,7 @@ fn told<T>(rt: &impl Eprint, came: io::Result<T>, failure: &str) -> io::Result<T
 fn main(rt: HostRuntime) -> io::Result<()> {
     let text = told(
         &rt,
-        read(rt.alloc(), rt.reader()),
+        read(rt.alloc(), rt.reader(), ENOUGH),
         "standard input cannot be read",
     )?;
     let mut lines = [0u8; 292];
