@@ -113,34 +113,34 @@ for option in -h --help; do
 done
 
 # What is shown while it proves, and when it proves: in a repository of three crates, and one that the program does not rest on,
-# with an rt that only pretends. Like the real one it takes a program with a stamp for built, and builds it before it is done.
+# with an rt that only pretends. Like the real one it proves the crate of the folder that it is in, those below it first, and builds
+# the program before it is done.
 mkdir -p bin small/host small/crates/{base,middle,tablecheck,beside}/src
 touch small/crates/{base,middle,tablecheck,beside}/src/lib.rt
-printf '%s\n' '# crates' base: 'middle: base io' 'tablecheck: middle libc' 'beside: base' >small/crates.txt
+printf '%s\n' '# crates' base: 'middle: base io' 'tablecheck: middle' 'beside: base' >small/crates.txt
 cp "$top/host/toolchain.sh" "$top/host/example.csv" small/host
 cp "$tablecheck" small/tablecheck
 cat >bin/rt <<'END'
 #!/bin/sh
-[ "$1" = check ] || exec "$real_rt" "$@"
+[ "$1" = run ] || exec "$real_rt" "$@"
 echo "$@" >>"$trial/calls"
-[ ! -e target/stamp/tablecheck ] || [ -e target/bin/tablecheck ] || exit 0
-mkdir -p target/log target/stamp target/bin
+[ -d src ] && [ "$(basename "$PWD")" = tablecheck ] || exit 1
 for crate in base middle tablecheck; do
-    : >"target/log/$crate.out"
+    echo "rt: chose --jobs 2 for $crate"
     sleep "${seconds_each:-0}"
     yes "fn $crate::f: proved" | head -n 70
-    echo "rt: $crate proved (1 s)" | tee "target/log/$crate.out"
-    : >"target/stamp/$crate"
+    mkdir -p "../$crate/out"
+    echo 'logic=proved functions=70'
 done
-cp "$built" target/bin/tablecheck
+cp "$built" out/tablecheck
 case ${ending:-} in
 failure) echo 'main.rt:1:1: error: it pretends to fail' && exit 1 ;;
-edit) touch crates/base/src/lib.rt ;;
+edit) touch ../base/src/lib.rt ;;
 late) touch "$trial/nearly-done" && sleep 4 && touch "$trial/went-on" & wait ;;
 esac
 END
 chmod +x bin/rt
-real_rt=$(command -v rt) built=$top/target/bin/tablecheck
+real_rt=$(command -v rt) built=$top/crates/tablecheck/out/tablecheck
 export real_rt built PATH="$trial/bin:$PATH"
 
 proves() { # WHAT: the last command had rt prove, once, and replied
@@ -158,11 +158,11 @@ proves_after() { # WHAT COMMAND
 : >calls
 run 'small/tablecheck nowhere.csv || small/tablecheck "$mine" >&-'
 holds 'a missing file and a closed output are found before anything is proved' '[ $status != 0 ] && [ ! -s calls ]'
-run ': >calls; rm -rf small/target; seconds_each=3 small/tablecheck "$mine"'
+run ': >calls; rm -rf small/target small/crates/*/out; seconds_each=3 small/tablecheck "$mine"'
 holds 'nothing proved yet: some minutes' 'grep -q "some minutes" err'
 holds 'which crate, and how many of how many' 'grep -q "1 of 3 .*middle" err'
 holds 'about one line for a crate' '[ "$(wc -l <err)" -le 5 ]'
-holds 'the log is kept' 'grep -qs "rt: tablecheck proved" small/target/tablecheck.log'
+holds 'the log is kept' 'grep -qs "fn tablecheck::f: proved" small/target/tablecheck.log'
 proves 'nothing proved yet'
 prints on-time 'up to date: nothing is said' 'small/tablecheck "$mine"'
 holds 'up to date: nothing is proved' '[ ! -s calls ]'
@@ -180,7 +180,7 @@ proves_after 'a check was interrupted' \
     "$change"'ending=late small/tablecheck "$mine" & until [ -e nearly-done ]; do sleep 0.1; done; kill $!; wait'
 sleep 4
 holds 'an interrupted check does not go on' '[ ! -e went-on ]'
-proves_after 'the program was removed' 'rm small/target/bin/tablecheck'
+proves_after 'the program was removed' 'rm small/crates/tablecheck/out/tablecheck'
 echo "program() { cat; }" >>small/host/toolchain.sh
 fails 'four lines' 'a program that prints other lines' 'small/tablecheck "$mine"'
 

@@ -1,10 +1,10 @@
-# Sourced by the scripts: how x86-64 programs are run here. The toolchain compiles for x86-64; on another machine it brings an
-# emulator.
+# Sourced by the scripts: how x86-64 programs are run here. The toolchain compiles for x86-64; an emulator for another machine is
+# taken from it if it brings one.
 command -v rt >/dev/null || {
     echo "the Rattle toolchain's command rt has to be on PATH" >&2
     exit 1
 }
-tools=$(cd "$(dirname "$(rt doc)")/.." && pwd)/on/$(uname -m)/toolchain
+tools=$(cd "$(dirname "$(rt doc)")" && pwd)/toolchain
 emulator=$tools/bin/qemu-x86_64
 [ -x "$emulator" ] || emulator=''
 
