@@ -34,8 +34,8 @@ use Rattle.reordering.specs.All.{All}
 use Rattle.reordering.specs.Canonical.{canonical_length}
 use Rattle.reordering.specs.Passed.{Fine, Passed, passed, check_none, lent_none, passed_canonical}
 use Rattle.theory.specs.Policies.{policy_repeats}
-use Rattle.theory.specs.Rows.{at_most}
-use Rattle.theory.specs.Sources.{valid_rows}
+use Rattle.theory.proofs.Rows.{at_most}
+use Rattle.theory.proofs.Sources.{valid_rows}
 use Rattle.boundary.specs.Packed.{SmallRefusal, Small, SmallSchedule, SmallWrite}
 use Rattle.boundary.specs.Crossing.{bytes_refusal}
 

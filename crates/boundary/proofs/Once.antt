@@ -13,9 +13,9 @@ use Rattle.rules.specs.AsRun.{listed}
 use Rattle.rules.specs.Checks.{verdict_refusal, slots_refusal, ids_refusal}
 use Rattle.rules.specs.Verdicts.{tasks_of, system_of}
 use Rattle.rules.specs.Written.{ids_of}
-use Rattle.theory.specs.Replies.{verdict_one, leaves_one}
-use Rattle.theory.specs.Responses.{worst_one}
-use Rattle.theory.specs.ScheduleReplies.{writes_one}
+use Rattle.theory.proofs.Replies.{verdict_one, leaves_one}
+use Rattle.theory.proofs.Responses.{worst_one}
+use Rattle.theory.proofs.ScheduleReplies.{writes_one}
 use Rattle.theory.specs.WriteReplies.{puts_one}
 use Rattle.boundary.specs.Packed.{packed, packed_schedule, packed_write}
 use Rattle.boundary.specs.Crossing.{bytes_refusal, HoldBytes, VerdictCrosses, ResponsesCross, ScheduleCrosses, AsRunCrosses, IdsCross}

@@ -20,9 +20,9 @@ use Rattle.theory.specs.Policies.{policy_repeats}
 use Rattle.theory.specs.Times.{Short, Turn}
 use Rattle.theory.specs.AsRun.{listed_nothing}
 use Rattle.theory.specs.Decides.{Within}
-use Rattle.theory.specs.Rows as rows
-use Rattle.theory.specs.Ends.{end_missed, end_through, end_settled}
-use Rattle.theory.specs.Completions.{seen_worst}
+use Rattle.theory.proofs.Rows as rows
+use Rattle.theory.proofs.Ends.{end_missed, end_through, end_settled}
+use Rattle.theory.proofs.Completions.{seen_worst}
 use Rattle.machine.specs.declared.Stop.{Stop}
 use Rattle.machine.specs.Machine.{live, Sound, system_in, choices, miss_at, mark_of, SameAt, Repeats, Ran}
 use Rattle.checker.specs.Outcomes.{accepted_of, Outcomes}

@@ -1,5 +1,5 @@
--- From a painted buffer to the bytes and the reply that the rules ask: `written-whole` for the bytes, one law for each end of
--- `as_run_of`, and `schedule-as-run`. The idea: what follows slot t in the buffer is what the rules write from t on, by the slots that
+-- From a painted buffer to the bytes and the reply that the rules ask: `written_whole` for the bytes, one law for each end of
+-- `as_run_of`, and `schedule_as_run`. The idea: what follows slot t in the buffer is what the rules write from t on, by the slots that
 -- remain. Up to the first miss the two bytes of a slot are the run's, and from there on 0 and 3.
 use mathlib.Core.Path.{◌≡◌, refl, ap, ◌∙◌}
 use mathlib.Core.Logic.{◌≢◌, inl}

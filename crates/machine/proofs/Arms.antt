@@ -20,8 +20,9 @@ use Rattle.rules.specs.Slots.{newest, complete, loading, lengths}
 use Rattle.rules.specs.AsRun.{one, begins, as_run}
 use Rattle.basics.specs.Cases.{eq_case, clash}
 use Rattle.theory.specs.Counters.{newest_until}
-use Rattle.theory.specs.Rows.{frees}
-use Rattle.theory.specs.Jump.{Busy, gained, jump, newest_near}
+use Rattle.theory.proofs.Rows.{frees}
+use Rattle.theory.specs.Jump.{Busy, gained, jump}
+use Rattle.theory.proofs.Jump.{newest_near}
 use Rattle.theory.specs.Completions.{Seen}
 use Rattle.slots.specs.Jobs.{never}
 use Rattle.machine.specs.declared.state.State.{State}

@@ -18,7 +18,7 @@ use Rattle.rules.specs.Slots as rules
 use Rattle.rules.specs.AsRun.{as_run}
 use Rattle.basics.specs.Cases.{clash}
 use Rattle.theory.specs.Counters.{until}
-use Rattle.theory.specs.Completions.{seen_start}
+use Rattle.theory.proofs.Completions.{seen_start}
 use Rattle.slots.specs.Jobs.{never}
 use Rattle.machine.specs.declared.state.State.{State}
 use Rattle.machine.specs.Least.{Least}

@@ -12,7 +12,8 @@ use Rattle.rules.specs.declared.Table.{Table}
 use Rattle.rules.specs.Policies.{System, row}
 use Rattle.rules.specs.Schedules.{id_byte, kind_byte}
 use Rattle.basics.specs.Cases.{eq_case}
-use Rattle.theory.specs.Jump.{whose, loads, Busy, inside}
+use Rattle.theory.specs.Jump.{whose, loads, Busy}
+use Rattle.theory.proofs.Jump.{inside}
 use Rattle.machine.specs.declared.state.State.{State}
 use Rattle.machine.specs.Paint.{Painted, stretch_id, stretch_kind}
 use Rattle.machine.specs.Machine.{live, system_in, choices, PaintedRun}

@@ -15,10 +15,12 @@ use Rattle.rules.specs.AsRun.{before, as_run}
 use Rattle.basics.specs.Cases.{le_case, eq_case}
 use Rattle.theory.specs.Counters.{until}
 use Rattle.theory.specs.Times.{Free}
-use Rattle.theory.specs.Rows.{frees}
-use Rattle.theory.specs.Jump.{now, whose, loads, Quiet, Busy, Firm, free_firm, Alike, gained, jump, event, quiet_until, quiet_due, until_falls}
-use Rattle.theory.specs.Lists.{requests_next, loadings_next, requests_stay, loadings_stay}
-use Rattle.theory.specs.Completions.{Seen, seen_served, seen_other}
+use Rattle.theory.proofs.Rows.{frees}
+use Rattle.theory.specs.Jump.{now, whose, loads, Quiet, Busy, Firm, Alike, gained, jump}
+use Rattle.theory.proofs.Jump.{free_firm, event, quiet_until, quiet_due, until_falls}
+use Rattle.theory.proofs.Lists.{requests_next, loadings_next, requests_stay, loadings_stay}
+use Rattle.theory.specs.Completions.{Seen}
+use Rattle.theory.proofs.Completions.{seen_served, seen_other}
 use Rattle.slots.specs.Jobs.{never}
 use Rattle.machine.specs.declared.state.State.{State}
 use Rattle.machine.specs.Least.{Least}

@@ -19,8 +19,8 @@ use Rattle.rules.specs.Policies.{row}
 use Rattle.rules.specs.Slots.{released, unless, delay, loading, joins, lengths}
 use Rattle.rules.specs.AsRun.{one, begins, as_run}
 use Rattle.basics.specs.Cases.{test, le_case, eq_case, clash}
-use Rattle.theory.specs.Runs.{unreleased}
-use Rattle.theory.specs.Falls.{sane}
+use Rattle.theory.proofs.Runs.{unreleased}
+use Rattle.theory.proofs.Falls.{sane}
 use Rattle.theory.specs.Counters.{until, counts}
 use Rattle.slots.specs.Jobs.{used_of, continues_of, delay_of, begins_of}
 use Rattle.machine.specs.declared.state.State.{State}

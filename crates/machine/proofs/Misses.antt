@@ -15,9 +15,9 @@ use Rattle.rules.specs.Slots as rules
 use Rattle.basics.specs.Cases.{test, le_case, eq_case, clash}
 use Rattle.reordering.specs.Passed.{Fine}
 use Rattle.theory.specs.Order.{First, pick_first}
-use Rattle.theory.specs.Runs.{unreleased}
+use Rattle.theory.proofs.Runs.{unreleased}
 use Rattle.theory.specs.Counters.{until, due_until}
-use Rattle.theory.specs.Jump.{pick_none}
+use Rattle.theory.proofs.Jump.{pick_none}
 use Rattle.slots.specs.Jobs.{never}
 use Rattle.machine.specs.declared.state.State.{State}
 use Rattle.machine.specs.Machine.{live, Sound, system_in, choices, state_at, miss_at, due_in, TaskAt, At, first_due}

@@ -11,7 +11,7 @@ use Rattle.rules.specs.Policies.{blank, row}
 use Rattle.basics.specs.Lists.{any_default}
 use Rattle.reordering.specs.Passed.{Fine, fine_at}
 use Rattle.theory.specs.Rows.{Valid}
-use Rattle.theory.specs.Sources.{valid_rows}
+use Rattle.theory.proofs.Sources.{valid_rows}
 use Rattle.machine.specs.Machine.{live, Sound}
 
 module _ (t : Table) (g : Sound t) where

@@ -9,7 +9,7 @@ use native.Mathlib.Nat.{mul-le-mul_right}
 use lib.ListN.{get_or}
 use Rattle.rules.specs.declared.Table.{Table}
 use Rattle.basics.specs.Cases.{eq_case, le_case}
-use Rattle.theory.specs.Falls.{sane}
+use Rattle.theory.proofs.Falls.{sane}
 use Rattle.slots.specs.Jobs.{never}
 use Rattle.machine.specs.declared.state.State.{State}
 use Rattle.machine.specs.declared.marks.Mark.{Mark}

@@ -13,11 +13,11 @@ use Rattle.rules.specs.Policies.{policy, row}
 use Rattle.rules.specs.Slots.{newest, complete, pick, rank}
 use Rattle.basics.specs.Cases.{test}
 use Rattle.theory.specs.Order.{First}
-use Rattle.theory.specs.Runs.{incomplete}
+use Rattle.theory.proofs.Runs.{incomplete}
 use Rattle.theory.specs.Counters.{until, newest_until}
-use Rattle.theory.specs.Free.{free_pick}
-use Rattle.theory.specs.Rows.{frees}
-use Rattle.theory.specs.Jump.{pick_is, newest_near}
+use Rattle.theory.proofs.Free.{free_pick}
+use Rattle.theory.proofs.Rows.{frees}
+use Rattle.theory.proofs.Jump.{pick_is, newest_near}
 use Rattle.reordering.specs.Passed.{Fine}
 use Rattle.slots.specs.Jobs.{never, key_of}
 use Rattle.machine.specs.declared.state.State.{State}

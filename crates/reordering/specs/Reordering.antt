@@ -1,5 +1,5 @@
 -- The order of the rows changes nothing: of two sources with no refusal of their own, whose rows are permutations of each other, the
--- refusals are equal with their places, or the tasks are (`perm-alike`). For the promise on row order; no code uses it.
+-- refusals are equal with their places, or the tasks are (`perm_alike`). For the promise on row order; no code uses it.
 use Rattle.std.specs.Prelude.{◌≡◌, refl, ◌≢◌, Bool, true, false, cond, List, [], ◌∷◌, ℕ, ◌+◌, ◌<◌, ◌≤◌, eqb, ltb}
 use Rattle.std.proofs.Common.{ap, ◌∙◌, arith, ne_eqb, lt-ltb, le-ltb}
 use Rattle.std.proofs.Math.Path.{fun_ext}

@@ -8,7 +8,7 @@ use Rattle.rules.specs.Sources.{text_source}
 use Rattle.rules.specs.Checks.{verdict_refusal}
 use Rattle.rules.specs.Verdicts.{tasks_of, system_of}
 use Rattle.basics.specs.Cases.{le_case}
-use Rattle.theory.specs.Replies.{verdict_one}
+use Rattle.theory.proofs.Replies.{verdict_one}
 use Rattle.report.specs.Lines.{allowance, line_of}
 use Rattle.report.specs.Reports.{Line, FourLines, Puts, Reports}
 

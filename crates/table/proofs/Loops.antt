@@ -1,5 +1,5 @@
 -- Loops over the first n of the sixteen rows, and over a list of checks: what is counted, searched or compared so far and what is to come
--- are the whole. For count_of, place_of and first_fault; `rest-cons` and `rest_end` take such a list apart.
+-- are the whole. For count_of, place_of and first_fault; `rest_cons` and `rest_end` take such a list apart.
 use mathlib.Core.Path.{◌≡◌, refl, sym, ap, ◌∙◌}
 use mathlib.Core.Logic.{◌≢◌}
 use mathlib.Core.Bool.{Bool, true, false, cond}

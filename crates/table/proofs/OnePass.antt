@@ -1,7 +1,7 @@
 -- One pass over the rows finds what the row checks find one by one. `Surveying` is the loop of checked: the rows seen pass the
 -- checks of a single row, each key seen is marked and was met once, and order, offsets and periods are those of the rows seen. A
--- check that fails in the pass is a fault of the rows (`faulty-row`, `faulty-key`); where the pass ends, there is none
--- (`surveying-done`).
+-- check that fails in the pass is a fault of the rows (`faulty_row`, `faulty_key`); where the pass ends, there is none
+-- (`surveying_done`).
 use mathlib.Core.Path.{◌≡◌, refl, sym, ap, ◌∙◌}
 use mathlib.Core.Logic.{◌≢◌}
 use mathlib.Core.Bool.{Bool, true, false, cond, not, ◌&&◌, ◌||◌}

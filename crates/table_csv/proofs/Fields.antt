@@ -1,5 +1,5 @@
 -- A field at the front of a text: its quotes, its digits, what follows them and what ends it. The laws by which quote, run,
--- stop_at, field and reach are proved, and the laws of parts (`part_count`, `part-rest`) that every proof over slices uses.
+-- stop_at, field and reach are proved, and the laws of parts (`part_count`, `part_rest`) that every proof over slices uses.
 use mathlib.Core.Path.{◌≡◌, refl, sym, ap, ◌∙◌}
 use mathlib.Core.Logic.{◌≢◌}
 use mathlib.Core.Bool.{Bool, true, false, cond}

@@ -1,4 +1,4 @@
--- A text read line by line gives the text's lines. `line` and `after` cut the first line off (`lines-line`), the header is a word
+-- A text read line by line gives the text's lines. `line` and `after` cut the first line off (`lines_line`), the header is a word
 -- without CR (`word_line`), rows past the sixteenth are only counted (`keep_all`). The section at the end is the loop of read_rows.
 use mathlib.Core.Path.{◌≡◌, refl, sym, ap, ◌∙◌}
 use mathlib.Core.Logic.{◌≢◌}

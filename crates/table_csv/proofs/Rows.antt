@@ -1,6 +1,6 @@
 -- A line read field by field gives the line's fields. `first`, `over` and `next` cut the first field off a text; every test of
 -- a field (`opens`, `inner`, `closed`, `behind`, `good`) says the same of `first s` as of the text s itself, so the reader needs no
--- cut of its own (`good-first`); from there `fields-good` and `fields-values` go by the number of fields. The section at the end
+-- cut of its own (`good_first`); from there `fields_good` and `fields_values` go by the number of fields. The section at the end
 -- is the loop of read_row.
 use mathlib.Core.Path.{◌≡◌, refl, sym, ap, ◌∙◌}
 use mathlib.Core.Logic.{◌≢◌}

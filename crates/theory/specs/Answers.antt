@@ -1,21 +1,14 @@
--- Worked tables by computation: a test that computes, and the law that a table which passes it has the reply as the rules word it. The
--- test computes the twin; that the twin is the relation is `Decides`.
-use Rattle.std.specs.Prelude.{◌≡◌, Bool, true, ◌&&◌, List, [], ◌∷◌, ℕ, zero, suc, ◌+◌, ◌*◌, ◌≤◌, eqb, leb, ltb, length}
-use Rattle.std.proofs.Common.{sym, ◌∙◌, inl, inr, arith, eqb-true, leb-true, ltb-true}
+-- Worked tables by computation: what a worked table says, and a test that computes it. Definitions; `proofs/Answers` ties the two.
+use Rattle.std.specs.Prelude.{◌≡◌, Bool, true, ◌&&◌, List, [], ◌∷◌, ℕ, zero, suc, eqb, leb, ltb, length}
 use Rattle.rules.specs.declared.Row.{Row}
 use Rattle.rules.specs.Table.{omax, hyper}
 use Rattle.rules.specs.Policies.{System, policy, system}
 use Rattle.rules.specs.Slots.{stated}
-use Rattle.rules.specs.Decided.{missed_at, EarliestMiss, Settles, SlotsNeeded}
+use Rattle.rules.specs.Decided.{missed_at, EarliestMiss, Settles}
 use Rattle.rules.specs.Verdicts.{plain, missed_id, Worst}
-use Rattle.basics.specs.Cases.{both_true, every, each}
-use Rattle.reordering.specs.All.{All}
-use Rattle.theory.specs.Policies.{policy_repeats}
+use Rattle.basics.specs.Cases.{every}
 use Rattle.theory.specs.Twin.{slots}
-use Rattle.theory.specs.Times.{Short, Turn}
-use Rattle.theory.specs.Decides.{Within}
-use Rattle.theory.specs.Responses.{worst, worst_is}
-use Rattle.theory.specs.Rows.{Fits, Passes, Valid, shorts, turn, within, needed}
+use Rattle.theory.specs.Responses.{worst}
 
 -- a worked table: the policy's number, the rows in ascending id, the slots needed, the missed id or 0, and, where stated,
 -- the worst responses in ascending id
@@ -42,73 +35,27 @@ abbrev pub Right : Case → Type 0
 Right c = Reply (system_for c) (omax c.rows) (hyper c.rows) c.time c.id c.worsts
 
 -- THE TEST
-abbrev fitb : Row → List Bool
+abbrev pub fitb : Row → List Bool
 fitb w = leb w.resume w.start ∷ leb w.deadline w.period ∷ leb w.wcet 10000 ∷ leb w.start 10000 ∷ leb w.offset 10000 ∷ []
 
-abbrev fitsb : List Row → Bool
+abbrev pub fitsb : List Row → Bool
 fitsb [] = true
 fitsb (w ∷ ws) = every (fitb w) && fitsb ws
 
-abbrev worstsb : System → ℕ → ℕ → List ℕ → Bool
+abbrev pub worstsb : System → ℕ → ℕ → List ℕ → Bool
 worstsb y n i [] = true
 worstsb y n i (m ∷ ms) = every (ltb i y.tasks ∷ eqb (worst y i n) m ∷ worstsb y n (suc i) ms ∷ [])
 
-abbrev replyb : System → ℕ → ℕ → List ℕ → Bool
+abbrev pub replyb : System → ℕ → ℕ → List ℕ → Bool
 replyb y n zero ms = eqb (missed_at y (stated y) n) 0 && worstsb y n 0 ms
 replyb y n (suc m) ms = ltb 0 (missed_at y (stated y) n) && eqb (missed_id y (stated y) n) (suc m)
 
-abbrev tests : Case → List Bool
+abbrev pub tests : Case → List Bool
 tests c = fitsb c.rows ∷ leb (length c.rows) 16 ∷ leb (hyper c.rows) 100000 ∷ eqb (slots (system_for c) (omax c.rows) (hyper c.rows)) c.time
     ∷ replyb (system_for c) c.time c.id c.worsts ∷ []
 
 unfoldable pub right : Case → Bool
 right c = every (tests c)
-
--- and that it suffices
-quick_all : (ws : List Row) → fitsb ws ≡ true → All (λ w. w.resume ≤ w.start) ws
-quick_all [] e = tt
-quick_all (w ∷ ws) e = let k = both_true (every (fitb w)) (fitsb ws) e in (leb-true w.resume w.start (each (fitb w) k.0).0, quick_all ws k.1)
-
-fits_all : (ws : List Row) → fitsb ws ≡ true → All Fits ws
-fits_all [] e = tt
-fits_all (w ∷ ws) e =
-    let k = both_true (every (fitb w)) (fitsb ws) e in
-    let f = each (fitb w) k.0 in (
-      record {
-        short = leb-true w.deadline w.period f.1.0;
-        wcet = leb-true w.wcet 10000 f.1.1.0;
-        start = leb-true w.start 10000 f.1.1.1.0;
-        offset = leb-true w.offset 10000 f.1.1.1.1.0;
-      },
-      fits_all ws k.1,
-    )
-
-module _ (y : System) (short : Short y) (o h : ℕ) (tn : Turn y h) (l : Within y o h) where
-  worsts_are : (n : ℕ) → Settles y o h plain n → (i : ℕ) (ms : List ℕ) → worstsb y n i ms ≡ true → Worsts y i ms
-  worsts_are n s i [] e = tt
-  worsts_are n s i (m ∷ ms) e =
-      let f = each (ltb i y.tasks ∷ eqb (worst y i n) m ∷ worstsb y n (suc i) ms ∷ []) e in
-      let q : o + suc s.k * h ≡ o + s.k * h + h = omega arith in
-      let k = worst_is y short h tn l.some (o + s.k * h) (λ j. omega (arith, l.offsets j)) (rw q at s.equal) i (ltb-true i y.tasks f.0) in
-      (rw (sym q ∙ sym s.number, eqb-true (worst y i n) m f.1.0) at k, worsts_are n s (suc i) ms f.1.1.0)
-
-  reply_is : (n m : ℕ) (ms : List ℕ) → SlotsNeeded y o h plain n → replyb y n m ms ≡ true → Reply y o h n m ms
-  reply_is n zero ms (inl a) e = absurd (a.misses (eqb-true (missed_at y (stated y) n) 0 (both_true _ (worstsb y n 0 ms) e).0))
-  reply_is n zero ms (inr s) e = (s, worsts_are n s 0 ms (both_true (eqb (missed_at y (stated y) n) 0) (worstsb y n 0 ms) e).1)
-  reply_is n (suc m) ms (inl a) e = (a, eqb-true _ (suc m) (both_true (ltb 0 (missed_at y (stated y) n)) (eqb (missed_id y (stated y) n) (suc m)) e).1)
-  reply_is n (suc m) ms (inr s) e = absurd (omega (arith, s.never n, ltb-true 0 (missed_at y (stated y) n) (both_true _ (eqb (missed_id y (stated y) n) (suc m)) e).0))
-
-pub right_is : (c : Case) → right c ≡ true → Right c
-unfolding right
-right_is c e =
-    let f = each (tests c) e in
-    let p = policy c.by in
-    let a = policy_repeats c.by in
-    let w : Passes c.rows = record { rows = fits_all c.rows f.0; count = leb-true _ 16 f.1.0; limit = leb-true _ 100000 f.1.1.0 } in
-    let v : Valid c.rows = record { passes = w; quick = quick_all c.rows f.0 } in
-    let q : slots (system_for c) (omax c.rows) (hyper c.rows) ≡ c.time = eqb-true _ c.time f.1.1.1.0 in
-    reply_is (system_for c) (shorts p a c.rows w) (omax c.rows) (hyper c.rows) (turn p a c.rows w) (within p a c.rows w)
-    c.time c.id c.worsts (rw q at (needed p a c.rows v)) f.1.1.1.1.0
 
 -- all of a list
 abbrev pub Rights : List Case → Type 0
@@ -118,7 +65,3 @@ Rights (c ∷ cs) = Right c × Rights cs
 abbrev pub rights : List Case → Bool
 rights [] = true
 rights (c ∷ cs) = right c && rights cs
-
-pub rights_are : (cs : List Case) → rights cs ≡ true → Rights cs
-rights_are [] e = tt
-rights_are (c ∷ cs) e = let k = both_true (right c) (rights cs) e in (right_is c k.0, rights_are cs k.1)

@@ -1,5 +1,5 @@
 -- Releases, newest releases and deadlines repeat with a number of slots that every period divides. All arithmetic of remainders
--- comes from two lemmas, `mod-turn` and `no-rest`. And the hypotheses that the other files ask of a table.
+-- comes from two lemmas, `mod_turn` and `no_rest`. And the hypotheses that the other files ask of a table.
 use Rattle.std.specs.Prelude.{◌≡◌, ◌↔◌, true, false, ℕ, zero, suc, ◌+◌, ◌-◌, ◌*◌, ◌/◌, ◌%◌, ◌≤◌, ◌<◌, leb, eqb}
 use Rattle.std.proofs.Common.{sym, ◌∙◌, add-zero, mod-eq_of_lt, div-add-mod'}
 use Rattle.std.proofs.Math.Nat.{add-mod, mod-mod, mod-le, zero-mod, sub_self, mul-mod_left}

@@ -1,30 +1,24 @@
--- Document 01's tables marked P: one table under one statement, proved of the rules by computation.
-use Rattle.std.specs.Prelude.{◌≡◌, refl, true, List, [], ◌∷◌, ◌++◌, ℕ}
+-- Document 01's tables marked P. Definitions; `proofs/WorkedTables` proves them of the rules.
+use Rattle.std.specs.Prelude.{List, [], ◌∷◌, ◌++◌, ℕ}
 use Rattle.rules.specs.declared.Row.{Row}
-use Rattle.rules.specs.Search.{lowest}
-use Rattle.rules.specs.Table.{omax, whole}
-use Rattle.rules.specs.Slots.{released, newest, due, run}
-use Rattle.rules.specs.Verdicts.{response}
-use Rattle.basics.specs.Search.{most}
-use Rattle.theory.specs.Twin.{equalb, missb, settled, slots}
-use Rattle.theory.specs.Answers.{Case, Rights, right, rights, rights_are}
+use Rattle.theory.specs.Answers.{Case}
 
 -- id offset wcet deadline period start resume priority
-abbrev w : ℕ → ℕ → ℕ → ℕ → ℕ → ℕ → ℕ → ℕ → Row
+abbrev pub w : ℕ → ℕ → ℕ → ℕ → ℕ → ℕ → ℕ → ℕ → Row
 w i o c d p s r q = record { id = i; offset = o; wcet = c; deadline = d; period = p; start = s; resume = r; priority = q }
 
 -- accepted with slots needed and, where the document states them, the worst responses; missed with time and id
-abbrev accepted : ℕ → List ℕ → List Row → ℕ → Case
+abbrev pub accepted : ℕ → List ℕ → List Row → ℕ → Case
 accepted n worsts ws p = record { by = p; rows = ws; time = n; id = 0; worsts = worsts }
 
-abbrev missed : ℕ → ℕ → List Row → ℕ → Case
+abbrev pub missed : ℕ → ℕ → List Row → ℕ → Case
 missed t i ws p = record { by = p; rows = ws; time = t; id = i; worsts = [] }
 
-abbrev any : (ℕ → Case) → List Case
+abbrev pub any : (ℕ → Case) → List Case
 any c = c 1 ∷ c 2 ∷ c 3 ∷ c 4 ∷ []
 
 -- "The program's table"
-abbrev printed : List Row
+abbrev pub printed : List Row
 printed = w 1 0 1 6 6 3 3 1 ∷ w 2 2 1 3 3 0 0 2 ∷ []
 
 abbrev pub tables : List Case
@@ -48,10 +42,3 @@ tables =
     -- a single row, and its wcet 5 instead
     ++ any (accepted 5 [] (w 1 0 4 5 5 1 0 1 ∷ []))
     ++ any (missed 5 1 (w 1 0 5 5 5 1 0 1 ∷ []))
-
-computed : rights tables ≡ true
-unfolding right run released newest due lowest whole omax most response equalb missb settled slots
-computed = refl
-
-pub tables_are : Rights tables
-tables_are = rights_are tables computed

@@ -8,7 +8,7 @@ use Rattle.rules.specs.Sources.{Source, text_source, read_of, source_of}
 use Rattle.rules.specs.Checks.{check, refusal_of, policy_wrong}
 use Rattle.rules.specs.Verdicts.{DecidesOf, Replies, ResponsesAre}
 use Rattle.reordering.specs.Alike.{read_alike}
-use Rattle.theory.specs.Reordered.{responses_to}
+use Rattle.theory.proofs.Reordered.{responses_to}
 use Rattle.checker.specs.Outcomes.{accepted_of}
 use Rattle.checker.proofs.Replied.{fails, passes, given, other_leaves}
 use Rattle.boundary.specs.Bytes.{bytes_of}

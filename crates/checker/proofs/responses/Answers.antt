@@ -1,7 +1,7 @@
 -- `responses` is that of the source which the text is.
 use Rattle.rules.specs.Sources.{text_source, read_of, source_of}
 use Rattle.reordering.specs.Alike.{read_alike}
-use Rattle.theory.specs.Reordered.{responses_to}
+use Rattle.theory.proofs.Reordered.{responses_to}
 use Rattle.checker.proofs.responses.Goals as goal
 
 pub returns : goal.returns

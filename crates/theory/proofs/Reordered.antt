@@ -1,5 +1,5 @@
--- Sources that are read as the same table get the same replies: a reply to the one is a reply to the other (`verdict-to` and so on),
--- and two replies that meet a contract are equal, with what they leave in lent memory (`verdict-same` and so on). With `perm-alike` this
+-- Sources that are read as the same table get the same replies: a reply to the one is a reply to the other (`verdict_to` and so on),
+-- and two replies that meet a contract are equal, with what they leave in lent memory (`verdict_same` and so on). With `perm_alike` this
 -- is "Reordering the rows changes no reply", of whatever was read; `Texts` has it of texts.
 use Rattle.std.specs.Prelude.{◌≡◌, List, ◌++◌, map, ℕ, length, drop}
 use Rattle.std.proofs.Common.{sym, ap, subst, ◌∙◌}
@@ -22,8 +22,8 @@ use Rattle.basics.specs.Cases.{eq_case}
 use Rattle.reordering.specs.Passed.{check_none, lent_none}
 use Rattle.reordering.specs.Canonical.{canonical_length}
 use Rattle.reordering.specs.Alike.{Alike}
-use Rattle.theory.specs.Replies.{verdict_one, responses_one}
-use Rattle.theory.specs.ScheduleReplies.{writes_one}
+use Rattle.theory.proofs.Replies.{verdict_one, responses_one}
+use Rattle.theory.proofs.ScheduleReplies.{writes_one}
 use Rattle.theory.specs.WriteReplies.{puts_one}
 
 module _ (s t : Source) (alike : Alike s t) where

@@ -1,6 +1,6 @@
 -- What the replies mean: accepted exactly where no job ever misses, missed with the smallest id; and two replies that meet a
 -- contract are equal, with what they leave in lent memory.
-use Rattle.std.specs.Prelude.{◌≡◌, refl, ◌≢◌, false, List, ℕ, zero, suc, ◌+◌, ◌-◌, ◌*◌, ◌≤◌, ◌<◌, pred, get_or, length}
+use Rattle.std.specs.Prelude.{◌≡◌, refl, ◌≢◌, false, List, ℕ, zero, suc, ◌+◌, ◌-◌, ◌*◌, ◌≤◌, ◌<◌, pred, get_or}
 use Rattle.std.proofs.Common.{sym, ap, ◌∙◌, inl, inr, arith, ext_get_or, get_or-drop}
 use Rattle.rules.specs.declared.Refusal.{Refusal}
 use Rattle.rules.specs.declared.Verdict.{Verdict}
@@ -13,10 +13,10 @@ use Rattle.rules.specs.Decided.{missed_at, NeverMissed, SlotsNeeded}
 use Rattle.rules.specs.Verdicts.{tasks_of, system_of, missed_id, plain, Decides, Replies, Hold, Leaves, ResponsesAre}
 use Rattle.basics.specs.Cases.{test, le_case, eq_case}
 use Rattle.theory.specs.Order.{First, pick_first}
-use Rattle.theory.specs.Runs.{unreleased}
-use Rattle.theory.specs.Jump.{pick_none}
-use Rattle.theory.specs.Decides.{miss_one, settles_one, slots_one}
-use Rattle.theory.specs.Responses.{worst_one}
+use Rattle.theory.proofs.Runs.{unreleased}
+use Rattle.theory.proofs.Jump.{pick_none}
+use Rattle.theory.proofs.Decides.{miss_one, settles_one, slots_one}
+use Rattle.theory.proofs.Responses.{worst_one}
 
 none_at_start : (y : System) → missed_at y (stated y) 0 ≡ 0
 none_at_start y = pick_none (λ i. 0) (on_time y 0 (run y (stated y) 0)) y.tasks

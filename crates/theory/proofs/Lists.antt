@@ -8,7 +8,8 @@ use Rattle.rules.specs.Policies.{System}
 use Rattle.rules.specs.Slots.{State, joins, joined, who}
 use Rattle.rules.specs.AsRun.{one, before, begins, as_run, listed}
 use Rattle.theory.specs.AsRun.{as_run_lem}
-use Rattle.theory.specs.Jump.{now, whose, loads, Quiet, Busy, Firm, firm_less, inside}
+use Rattle.theory.specs.Jump.{now, whose, loads, Quiet, Busy, Firm}
+use Rattle.theory.proofs.Jump.{firm_less, inside}
 
 before_none : (joins : ℕ → Bool) (n : ℕ) → ((i : ℕ) → i < n → joins i ≡ false) → before joins n ≡ 0
 before_none joins zero h = refl

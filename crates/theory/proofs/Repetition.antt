@@ -8,10 +8,11 @@ use Rattle.rules.specs.Policies.{System}
 use Rattle.rules.specs.Slots.{State, Choice, complete, release, pick, loading, due, joins, rank, under_way, order, requests, lengths, joined, stated, schedule, on_time, missed}
 use Rattle.rules.specs.Decided.{Same}
 use Rattle.basics.specs.Cases.{test, le_case, clash}
-use Rattle.theory.specs.Uniform.{uniform, act, run_next}
+use Rattle.theory.specs.Uniform.{uniform, act}
+use Rattle.theory.proofs.Uniform.{run_next}
 use Rattle.theory.specs.Order.{First, pick_first, agree_all}
 use Rattle.theory.specs.Times.{Short, Turn, released_again, due_again}
-use Rattle.theory.specs.Runs.{unreleased, joined_full, full, like}
+use Rattle.theory.proofs.Runs.{unreleased, joined_full, full, like}
 
 pick_le : (r : ℕ → ℕ) (d : ℕ → Bool) (n : ℕ) → pick r d n ≤ n
 pick_le r d n = go (pick r d n) (pick_first r d n)

@@ -9,7 +9,7 @@ use Rattle.rules.specs.Decided.{missed_at, Equal}
 use Rattle.rules.specs.Verdicts.{missed_id, Decides}
 use Rattle.basics.specs.Cases.{le_case}
 use Rattle.theory.specs.Times.{Short, Turn}
-use Rattle.theory.specs.Repetition.{never_missed}
+use Rattle.theory.proofs.Repetition.{never_missed}
 
 module _ (y : System) (o h a : ℕ) where
   -- at a miss

@@ -21,9 +21,10 @@ use Rattle.reordering.specs.All.{All}
 use Rattle.reordering.specs.Canonical.{canonical_length}
 use Rattle.reordering.specs.Passed.{Fine, Passed, passed, passed_canonical, fine_at, ids_rise}
 use Rattle.theory.specs.Policies.{policy_repeats}
-use Rattle.theory.specs.Rows.{Fits, Valid, shorts, quicks, frees, needed, at_most}
-use Rattle.theory.specs.Demand3.{keeps_time}
-use Rattle.theory.specs.Replies.{never_accepted, missed_smallest}
+use Rattle.theory.specs.Rows.{Fits, Valid}
+use Rattle.theory.proofs.Rows.{shorts, quicks, frees, needed, at_most}
+use Rattle.theory.proofs.Demand3.{keeps_time}
+use Rattle.theory.proofs.Replies.{never_accepted, missed_smallest}
 
 -- ROWS THAT PASS meet what the theory asks
 

@@ -1,11 +1,12 @@
 -- Where a job may be preempted at any slot, the slot goes to the first by rank: the laws of preemption at any slot (domination, and with
--- it the weight that falls) start at `free-next` in place of `run-next`.
+-- it the weight that falls) start at `free_next` in place of `run_next`.
 use Rattle.std.specs.Prelude.{◌≡◌, refl, ◌↔◌, Bool, ℕ, suc, ◌≤◌}
 use Rattle.std.proofs.Common.{ap, ◌∙◌, arith}
 use Rattle.rules.specs.Policies.{System}
 use Rattle.rules.specs.Slots.{State, Choice, complete, pick, loading, rank, order, lengths, joined, run}
 use Rattle.theory.specs.Order.{pick_first, agree_all}
-use Rattle.theory.specs.Uniform.{uniform, act, run_next}
+use Rattle.theory.specs.Uniform.{uniform, act}
+use Rattle.theory.proofs.Uniform.{run_next}
 use Rattle.theory.specs.Times.{Free}
 
 -- orders that compare alike pick alike

@@ -13,7 +13,7 @@ use Rattle.rules.specs.Written.{IdsAre}
 use Rattle.reordering.specs.Permutations.{Perm}
 use Rattle.reordering.specs.Alike.{Alike}
 use Rattle.reordering.specs.Reordering.{perm_alike}
-use Rattle.theory.specs.Reordered.{verdict_same, responses_same, schedule_same, as_run_same, ids_same}
+use Rattle.theory.proofs.Reordered.{verdict_same, responses_same, schedule_same, as_run_same, ids_same}
 
 well_formed : (s : List ℕ) → length s ≤ 4096 → bad_line s ≡ 0 → text_source s ≡ given (rows_of s)
 unfolding text_source

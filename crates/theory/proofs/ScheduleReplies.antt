@@ -9,7 +9,7 @@ use Rattle.rules.specs.Slots.{Choice}
 use Rattle.rules.specs.Verdicts.{missed_id}
 use Rattle.rules.specs.Schedules.{Fills, Writes}
 use Rattle.basics.specs.Cases.{eq_case}
-use Rattle.theory.specs.Decides.{miss_one}
+use Rattle.theory.proofs.Decides.{miss_one}
 
 fills_one : (y : System) (c : ℕ → Choice) (n : ℕ) (r s : ScheduleReply) → Fills y c n r → Fills y c n s → r ≡ s
 fills_one y c n Filled Filled d e = refl

@@ -7,10 +7,10 @@ use Rattle.rules.specs.Policies.{System}
 use Rattle.rules.specs.Slots.{Choice, complete, released, due, on_time, requests, run, stated}
 use Rattle.rules.specs.Decided.{NeverMissed, missed_at}
 use Rattle.rules.specs.Demands.{HasHad, KeepsTime}
-use Rattle.theory.specs.Uniform.{run_next}
+use Rattle.theory.proofs.Uniform.{run_next}
 use Rattle.theory.specs.Order.{pick_first}
 use Rattle.theory.specs.Times.{Free, Quick, Short, released_alone, is_due}
-use Rattle.theory.specs.Runs.{finishes, demand_3}
+use Rattle.theory.proofs.Runs.{finishes, demand_3}
 
 -- until its successor's release a job is to have what it asked for at its own
 module _ (y : System) (c : ℕ → Choice) (i r : ℕ) (job : released (y.row i) r ≡ true) where
