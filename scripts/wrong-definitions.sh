@@ -18,7 +18,7 @@ trap 'rm -rf "$copy"' EXIT
 git init -q "$copy"
 mkdir "$copy/crates"
 for crate in rules basics reordering theory; do
-    cp -R "$top/crates/$crate" "$copy/crates/$crate"
+    (cd "$top" && tar -c --exclude=out "crates/$crate") | tar -x -C "$copy"
     grep "^$crate:" "$top/crates.txt"
 done >"$copy/crates.txt"
 
@@ -45,11 +45,12 @@ try() {
     file=$(part file "$1")
     log=$copy/$label.log
     if ! edit "$1" "$file"; then
+        cp "$top/crates/rules/$file" "$copy/crates/rules/$file"
         echo "$label: BAD EDIT: its old text is not there once"
         return 1
     fi
     status=0
-    (cd "$copy" && rt check theory) >"$log" 2>&1 || status=$?
+    (cd "$copy/crates/theory" && rt check) >"$log" 2>&1 || status=$?
     cp "$top/crates/rules/$file" "$copy/crates/rules/$file"
     first=$(grep -m 1 ': error: ' "$log" | sed "s|$copy/||" | cut -c 1-120)
     if [ "$status" -eq 1 ] && [ -n "$first" ]; then
