@@ -1,31 +1,18 @@
-// What the programs that run vectors share, and no other crate uses: how their input is read, how a line of it is cut at its
-// bars, how a text is written in it, and how words and numbers are written out. A line is a reason, a bar and a case; a line
-// without a bar is a heading.
+// What the programs that run vectors share, and no other crate uses: how a line of input is cut at its bars, how a text is
+// written in it, and how words and numbers are written out. A line is a reason, a bar and a case; a line without a bar is a
+// heading.
 //
 // In a text round brackets stand around a row, and in them a blank for its comma: (1 0 2 5 5 1 1 1). After a backslash h stands
 // for the header with its line end, m for ten rows, c for a hundred zeros, r, n, t, 0 and x for CR, LF, tab, NUL and byte 255,
 // any other byte for itself.
 #![tactic(auto)]
 
-ghost use Rattle.std.specs.Prelude.{◌≡◌, ◌-◌, ◌≤◌, IfOk, IfSome, length, take};
+ghost use Rattle.std.specs.Prelude.{◌-◌, ◌≤◌, length};
 
-use std::alloc::Global;
 use std::io;
-use std::io::Read;
 
 // Room for a text, over the limit of 4,096 bytes.
 pub const ROOM: usize = 5_000;
-
-// INPUT
-
-// The first bytes that the reader gives, up to so many.
-pub fn input<R: Read + Drop>(alloc: Global, reader: R, most: u64) -> io::Result<Vec<u8>>
-    ensures { IfOk result (λ v. IfSome (R.remaining reader) (λ xs. v.items ≡ take most xs)) }
-{
-    let mut bytes = Vec::new(alloc);
-    reader.take(most).read_to_end(&mut bytes)?;
-    Ok(bytes)
-}
 
 // OUTPUT
 

@@ -3,23 +3,9 @@
 // where writing fails it says that; both end it with status 1. ./tablecheck looks for the four lines besides.
 #![tactic(auto)]
 
-ghost use Rattle.std.specs.Prelude.{◌≡◌, IfOk, IfSome, take};
+ghost use Rattle.std.specs.Prelude.{◌≡◌};
 
-use std::alloc::Global;
 use std::io;
-use std::io::Read;
-
-// One byte over the longest text, which is all that tells.
-const ENOUGH: u64 = 4_097;
-
-// What is read is all there is, or the first bytes, so many as are enough.
-fn read<R: Read + Drop>(alloc: Global, reader: R, enough: u64) -> io::Result<Vec<u8>>
-    ensures { IfOk result (λ text. IfSome (R.remaining reader) (λ xs. text.items ≡ take enough xs)) }
-{
-    let mut text = Vec::new(alloc);
-    reader.take(enough).read_to_end(&mut text)?;
-    Ok(text)
-}
 
 // Hands on what came of a step, and where that is an error says so before.
 fn told<T>(rt: &impl Eprint, came: io::Result<T>, failure: &str) -> io::Result<T>
@@ -33,13 +19,15 @@ fn told<T>(rt: &impl Eprint, came: io::Result<T>, failure: &str) -> io::Result<T
 }
 
 fn main(rt: HostRuntime) -> io::Result<()> {
-    let text = told(
+    // One byte over the longest text, which is all that tells.
+    let mut text = [0u8; 4097];
+    let n = told(
         &rt,
-        read(rt.alloc(), rt.reader(), ENOUGH),
+        input::read_full(rt.reader(), &mut text),
         "standard input cannot be read",
     )?;
     let mut lines = [0u8; 292];
-    let m = report::report(&text, &mut lines);
+    let m = report::report(&text[..n], &mut lines);
     told(
         &rt,
         rt.write_all(&lines[..m]),

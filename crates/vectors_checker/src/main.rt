@@ -19,9 +19,6 @@ use cases::{before, behind, fitting, put, word};
 use rules::{ScheduleReply, Verdict, WriteReply};
 use std::io;
 
-// The longest input.
-const MOST_INPUT: u64 = 65_536;
-
 // Numbers in a part of a line.
 const NUMBERS: usize = 64;
 
@@ -401,6 +398,7 @@ fn lines(rt: &impl Print, input: &[u8]) -> io::Result<()> {
 }
 
 fn main(rt: HostRuntime) -> io::Result<()> {
-    let input = cases::input(rt.alloc(), rt.reader(), MOST_INPUT)?;
-    lines(&rt, &input)
+    let mut buffer = [0u8; 65536];
+    let n = input::read_full(rt.reader(), &mut buffer)?;
+    lines(&rt, &buffer[..n])
 }

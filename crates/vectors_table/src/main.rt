@@ -7,9 +7,6 @@ use cases::put;
 use rules::{Row, Table};
 use std::io;
 
-// The longest input.
-const MOST: u64 = 32_768;
-
 fn wide(x: usize) -> u64 {
     x as u64
 }
@@ -70,6 +67,7 @@ fn lines(rt: &impl Print, input: &[u8]) -> io::Result<()> {
 }
 
 fn main(rt: HostRuntime) -> io::Result<()> {
-    let input = cases::input(rt.alloc(), rt.reader(), MOST)?;
-    lines(&rt, &input)
+    let mut buffer = [0u8; 32768];
+    let n = input::read_full(rt.reader(), &mut buffer)?;
+    lines(&rt, &buffer[..n])
 }
