@@ -1,4 +1,4 @@
--- Nothing is lost: of every reply that the rules give to a small source, as a text is (`Bounds.text-small`), kind, number and place are
+-- Nothing is lost: of every reply that the rules give to a small source, as a text is (`Bounds.text_small`), kind, number and place are
 -- had back from the one number that crosses, by the divisions of host/ottersprawl.h.
 use mathlib.Core.Path.{◌≡◌, refl}
 use mathlib.Core.List.{List}

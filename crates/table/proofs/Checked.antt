@@ -108,3 +108,20 @@ module _ {p : ℕ} {unfit : Bool} (a : Admitted p unfit) (t : RowsRead) where
   unfolding rows_read table_read first_fault
   rows_read_lem own low high full = ap (λ (f : Refusal). unless_refused f t)
       (sym (rows_refusal own ∙ rw (enough_rows low high) (ap (first_fault (row_checks ++ (13 ∷ []))) (rows_first t (omega arith)))))
+
+-- the same with each premise apart
+module _ (p : ℕ) (unfit : Bool) (t : RowsRead) (policy : policy_wrong p ≡ false) (buffer : unfit ≡ false) where
+  pub own_apart : t.refusal.number ≢ 0 → refused t.refusal.number t.refusal.place ≡ table_read p unfit t
+  own_apart some = own_refused (record { policy = policy; buffer = buffer }) t some
+
+  pub count_low : t.refusal.number ≡ 0 → t.count < 1 → refused 5 0 ≡ table_read p unfit t
+  count_low own low = count_refused (record { policy = policy; buffer = buffer }) t own (rw (lt-leb _ _ low) refl)
+
+  pub count_high : t.refusal.number ≡ 0 → 1 ≤ t.count → 16 < t.count → refused 5 0 ≡ table_read p unfit t
+  count_high own low high = count_refused (record { policy = policy; buffer = buffer }) t own (rw (le-leb _ _ low, lt-leb _ _ high) refl)
+
+  pub read_apart : t.refusal.number ≡ 0 → 1 ≤ t.count → t.count ≤ 16 → length t.rows ≡ 16 → rows_read t ≡ table_read p unfit t
+  read_apart own low high full = rows_read_lem (record { policy = policy; buffer = buffer }) t own low high full
+
+-- what `check` replies, on each way through it
+pub ruleset replies = (policy_refused, buffer_refused, own_apart, count_low, count_high, read_apart)

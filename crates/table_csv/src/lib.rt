@@ -337,6 +337,7 @@ fn kept_at(n: usize, r: Row, old: Row) -> Row
 }
 
 // The whole text, line by line, up to the first ill-formed line or the end. The rows are stored where they stay.
+#[tactic(auto, using(crate::proofs::Lines::long_refused))]
 pub fn read_rows(text: &[u8]) -> RowsRead
     ensures { result ≡ read_of (text_source text.now) }
 {

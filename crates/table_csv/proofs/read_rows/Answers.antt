@@ -1,11 +1,8 @@
 -- `table_csv::read_rows` meets its contract by the laws of its loop.
 use Rattle.std.proofs.Common.{arith, refl, ◌∙◌, length-set}
 use Rattle.std.proofs.lemmas.Bool.{not-true, not-false}
-use Rattle.table_csv.proofs.Lines.{row_less, rows_so_far, keep_in, long_refused, none_refused, taking_start, taking_bad, taking_turn, taking_done}
+use Rattle.table_csv.proofs.Lines.{row_less, rows_so_far, keep_in, none_refused, taking_start, taking_bad, taking_turn, taking_done}
 use Rattle.table_csv.proofs.read_rows.Goals as goal
-
-pub returns-then-text-gt-MAX_TEXT : goal.returns-then-text-gt-MAX_TEXT
-returns-then-text-gt-MAX_TEXT c = c.refused.ensures ∙ long_refused c.args.text.now c.if-text-gt-MAX_TEXT.true
 
 pub returns-then-h-eq0 : goal.returns-then-h-eq0
 returns-then-h-eq0 c =
