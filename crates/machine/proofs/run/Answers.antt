@@ -1,12 +1,12 @@
 -- The loop over events. Each way through a turn is a law of `Going` and is cited once, for both goals of it: the measure falls, and the
 -- invariant holds again.
-use Rattle.std.proofs.Common.{◌≡◌, ◌≢◌, ◌∙◌, ap, ℕ, ◌+◌, ◌-◌, ◌*◌, ◌/◌, ◌≤◌, ◌<◌, arith}
+use Rattle.std.proofs.Common.{◌≡◌, ◌≢◌, ◌∙◌, ap, List, ℕ, ◌+◌, ◌-◌, ◌*◌, ◌/◌, ◌≤◌, ◌<◌, arith}
 use Rattle.slots.specs.Jobs.{worked_of}
 use Rattle.machine.specs.declared.state.State.{State}
-use Rattle.machine.proofs.Places.{Head, Going, Turning, Onward, OneMore}
+use Rattle.machine.proofs.Places.{Head, Going, Turning, Until, Serving, Onward, OneMore}
 use Rattle.machine.proofs.Going.{going_start, ran_missed, ran_repeats, onward_marked, ran_through, joins_start, one_more, until_stop, onward_idle, serving, onward_goes, onward_ends}
 use Rattle.machine.proofs.run.Goals as goal
-use Rattle.machine.proofs.run.Goals.{After-slice_known-then-s-1, After-least, After-minus-then-stop-full, After-least-in-loop-s}
+use Rattle.machine.proofs.run.Goals.{After-sooner-stop, After-stretch-in-loop-s, After-slice_known-then-s-1, After-least, After-minus-then-stop-full, After-least-in-loop-s}
 
 -- ARITHMETIC
 
@@ -16,12 +16,34 @@ measure_joins u next n e h = omega arith
 less_most : {a b : ℕ} → a < b → a ≤ b
 less_most h = omega arith
 
--- THE WAYS through a turn, each with what both of its goals ask. `abbrev`, for both heads are found from the law
+-- WHAT IS KNOWN on the way, said over the step up to which goals go together. `abbrev` where a head, a state or bytes are found from the law
 
 -- nothing is missed, no mark and no end is now
 turning : {h : Head} → Going h → h.state.soonest ≢ h.time → h.mark ≢ h.time → h.time ≢ h.end → Turning h
 turning going on_time later more = record { going = going; on_time = on_time; later = later; more = more }
 
+-- all have joined, and nothing else happens before `stop`
+abbrev until : (c : After-sooner-stop) → (h : Head) × Until h c.loop-s-2.s c.sooner-stop.result
+until c = (
+  _,
+  until_stop (turning c.loop-s.invariant c.if-s-time.false c.if-mark-time.false c.if-time-end.false) c.loop-s-2.invariant c.loop-s-2-test.false
+      c.sooner-in-loop-s.ensures c.sooner-in-loop-s-3.ensures c.sooner-stop.ensures,
+)
+
+-- the first has the slots, and they are painted
+abbrev serves : (c : After-stretch-in-loop-s)
+    → (h : Head) × (after : List ℕ) × Serving h c.loop-s-2.s c.sooner-stop.result c.load-l.result c.finish-full.result c.span-d.result after
+serves c = (
+  _,
+  _,
+  serving
+      (until_stop (turning c.loop-s.invariant c.if-s-time.false c.if-mark-time.false c.if-time-end.false) c.loop-s-2.invariant c.loop-s-2-test.false
+      c.sooner-in-loop-s.ensures c.sooner-in-loop-s-3.ensures c.sooner-stop.ensures)
+      c.if-s.false c.continues-again.ensures c.load-l.ensures c.finish-full.ensures c.sooner-in-loop-s-4.ensures c.span-d.ensures
+      c.stretch-in-loop-s.ensures,
+)
+
+-- a way through a turn, with what both of its goals ask
 abbrev Way : Type 0
 Way = (from : Head) × (to : Head) × Onward from to
 
@@ -73,20 +95,10 @@ loop-s-2-preserved c = rw (c.used.ensures, c.sooner-in-loop-s-2.ensures, c.soone
 -- NOBODY HAS THE SLOTS
 
 pub overflow_sub-stop : goal.overflow_sub-stop
-overflow_sub-stop c =
-    less_most
-    (until_stop (turning c.loop-s.invariant c.if-s-time.false c.if-mark-time.false c.if-time-end.false) c.loop-s-2.invariant c.loop-s-2-test.false
-    c.sooner-in-loop-s.ensures c.sooner-in-loop-s-3.ensures c.sooner-stop.ensures).near.after
+overflow_sub-stop c = less_most (until (goal.at.overflow_sub-stop c).After-sooner-stop).1.near.after
 
 abbrev idles : After-slice_known-then-s-1 → Way
-idles c = (
-  _,
-  _,
-  onward_idle
-      (until_stop (turning c.loop-s.invariant c.if-s-time.false c.if-mark-time.false c.if-time-end.false) c.loop-s-2.invariant c.loop-s-2-test.false
-      c.sooner-in-loop-s.ensures c.sooner-in-loop-s-3.ensures c.sooner-stop.ensures)
-      c.if-s.true c.stretch.ensures,
-)
+idles c = (_, _, onward_idle (until (goal.at.loop-s-smaller-then-s c).After-sooner-stop).1 c.if-s.true c.stretch.ensures)
 
 pub loop-s-smaller-then-s : goal.loop-s-smaller-then-s
 loop-s-smaller-then-s c = (idles c).2.less
@@ -94,15 +106,15 @@ loop-s-smaller-then-s c = (idles c).2.less
 pub loop-s-preserved-then-s : goal.loop-s-preserved-then-s
 loop-s-preserved-then-s c = (idles c).2.going
 
--- THE FIRST HAS THEM, and they are painted. It goes on after them
+-- THE FIRST HAS THEM. It goes on after them
 
 abbrev goes : After-minus-then-stop-full → Way
-goes c =
-    let serves =
-    serving (until_stop (turning c.loop-s.invariant c.if-s-time.false c.if-mark-time.false c.if-time-end.false) c.loop-s-2.invariant c.loop-s-2-test.false
-    c.sooner-in-loop-s.ensures c.sooner-in-loop-s-3.ensures c.sooner-stop.ensures) c.if-s.false c.continues-again.ensures c.load-l.ensures c.finish-full.ensures c.sooner-in-loop-s-4.ensures
-    c.span-d.ensures c.stretch-in-loop-s.ensures in
-    (_, _, onward_goes serves c.if-stop-full.true (c.worked-x.ensures ∙ ap (worked_of _ _) c.minus.ensures) _ c.minus-then-stop-full.ensures)
+goes c = (
+  _,
+  _,
+  onward_goes (serves (goal.at.loop-s-smaller-then-stop-full c).After-stretch-in-loop-s).2 c.if-stop-full.true
+      (c.worked-x.ensures ∙ ap (worked_of _ _) c.minus.ensures) _ c.minus-then-stop-full.ensures,
+)
 
 pub loop-s-smaller-then-stop-full : goal.loop-s-smaller-then-stop-full
 loop-s-smaller-then-stop-full c = (goes c).2.less
@@ -113,16 +125,12 @@ loop-s-preserved-then-stop-full c = (goes c).2.going
 -- Its job is complete with them
 
 abbrev ends : After-least-in-loop-s → Way
-ends c =
-    let serves =
-    serving (until_stop (turning c.loop-s.invariant c.if-s-time.false c.if-mark-time.false c.if-time-end.false) c.loop-s-2.invariant c.loop-s-2-test.false
-    c.sooner-in-loop-s.ensures c.sooner-in-loop-s-3.ensures c.sooner-stop.ensures) c.if-s.false c.continues-again.ensures c.load-l.ensures c.finish-full.ensures c.sooner-in-loop-s-4.ensures
-    c.span-d.ensures c.stretch-in-loop-s.ensures in (
-      _,
-      _,
-      onward_ends serves c.if-stop-full.false c.span.ensures c.minus-took.ensures c.greater.ensures _ c.blocks-blocks.ensures.1 c.without.ensures
-          c.least-in-loop-s.ensures,
-    )
+ends c = (
+  _,
+  _,
+  onward_ends (serves (goal.at.loop-s-smaller c).After-stretch-in-loop-s).2 c.if-stop-full.false c.span.ensures c.minus-took.ensures
+      c.greater.ensures _ c.blocks-blocks.ensures.1 c.without.ensures c.least-in-loop-s.ensures,
+)
 
 pub loop-s-smaller : goal.loop-s-smaller
 loop-s-smaller c = (ends c).2.less

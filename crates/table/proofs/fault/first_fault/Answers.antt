@@ -1,3 +1,4 @@
+-- `table::fault::first_fault` meets its contract by the laws of its loop.
 use Rattle.std.proofs.Common.{refl, arith}
 use Rattle.rules.specs.Checks.{row_checks}
 use Rattle.table.proofs.Loops.{rowwise, fault_stop, fault_next, fault_none}

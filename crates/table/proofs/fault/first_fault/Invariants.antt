@@ -1,3 +1,4 @@
+-- `table::fault::first_fault` makes the row checks in their order: none that is passed fails.
 use Rattle.std.proofs.Common.{◌-◌, ◌≡◌, ◌≤◌, take, drop}
 use Rattle.rules.specs.Checks.{row_checks, first_fault}
 use Rattle.table.proofs.fault.first_fault.Given as goal

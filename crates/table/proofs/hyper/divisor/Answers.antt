@@ -1,3 +1,4 @@
+-- `table::hyper::divisor` meets its contract by the laws of its loop.
 use Rattle.std.proofs.Common.{arith}
 use Rattle.table.proofs.Multiples.{dividing_start, dividing_turn, dividing_done}
 use Rattle.table.proofs.hyper.divisor.Goals as goal

@@ -1,3 +1,4 @@
+-- `table::hyper::divisor` finds the greatest common divisor by remainders, which fall.
 use Rattle.table.proofs.Multiples.{Dividing}
 use Rattle.table.proofs.hyper.divisor.Given as goal
 

@@ -1,3 +1,4 @@
+-- `table::survey::checked` goes over the rows once: those passed are fine.
 use Rattle.std.proofs.Common.{◌-◌, take}
 use Rattle.table.proofs.OnePass.{Surveying}
 use Rattle.table.proofs.survey.checked.Given as goal
