@@ -22,6 +22,7 @@ pub extern "C" fn otter_verdict(policy: u32, allowance: u64, text: &[u8]) -> u64
 // The verdict; if it is accepted, the lent bytes hold the worst responses in ascending id, four bytes each. The checker is lent numbers
 // of our own, and only then are they written: a contract sees values and not stores, but memory that may not be written to does.
 #[unsafe(no_mangle)]
+#[tactic(auto, using(crate::proofs::Held::room, crate::proofs::Held::stores))]
 pub extern "C" fn otter_responses(
     policy: u32,
     allowance: u64,

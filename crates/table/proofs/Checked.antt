@@ -79,13 +79,9 @@ module _ (p : ℕ) (unfit : Bool) (t : RowsRead) where
   buffer_refused e f = refused_read (record { number = 2; place = 0 }) (rw (e, f) refl) (λ z. omega arith)
 
 -- THE SOURCE, where policy and buffer are right
-pub record Admitted (p : ℕ) (unfit : Bool) : Type 0 where
-  pub policy : policy_wrong p ≡ false
-  pub buffer : unfit ≡ false
-
-module _ {p : ℕ} {unfit : Bool} (a : Admitted p unfit) (t : RowsRead) where
+module _ (p : ℕ) (unfit : Bool) (t : RowsRead) (policy : policy_wrong p ≡ false) (buffer : unfit ≡ false) where
   source_refusal : refusal_for p unfit (source_of t) ≡ refusal_of (source_of t)
-  source_refusal = rw (a.policy, a.buffer) refl
+  source_refusal = rw (policy, buffer) refl
 
   pub own_refused : t.refusal.number ≢ 0 → refused t.refusal.number t.refusal.place ≡ table_read p unfit t
   unfolding refusal_of
@@ -95,9 +91,15 @@ module _ {p : ℕ} {unfit : Bool} (a : Admitted p unfit) (t : RowsRead) where
   unfolding refusal_of
   rows_refusal own = source_refusal ∙ rw own
 
-  pub count_refused : t.refusal.number ≡ 0 → within 1 16 t.count ≡ false → refused 5 0 ≡ table_read p unfit t
+  count_refused : t.refusal.number ≡ 0 → within 1 16 t.count ≡ false → refused 5 0 ≡ table_read p unfit t
   unfolding first_fault found
   count_refused own e = refused_read p unfit t (record { number = 5; place = 0 }) (rows_refusal own ∙ rw (rows_count t, e)) (λ z. omega arith)
+
+  pub count_low : t.refusal.number ≡ 0 → t.count < 1 → refused 5 0 ≡ table_read p unfit t
+  count_low own low = count_refused own (rw (lt-leb _ _ low) refl)
+
+  pub count_high : t.refusal.number ≡ 0 → 1 ≤ t.count → 16 < t.count → refused 5 0 ≡ table_read p unfit t
+  count_high own low high = count_refused own (rw (le-leb _ _ low, lt-leb _ _ high) refl)
 
   -- 1 to 16 rows, of sixteen that are held: what is left is to go over them
   enough_rows : 1 ≤ t.count → t.count ≤ 16 → found 5 (rows_in t) ≡ 0
@@ -109,19 +111,5 @@ module _ {p : ℕ} {unfit : Bool} (a : Admitted p unfit) (t : RowsRead) where
   rows_read_lem own low high full = ap (λ (f : Refusal). unless_refused f t)
       (sym (rows_refusal own ∙ rw (enough_rows low high) (ap (first_fault (row_checks ++ (13 ∷ []))) (rows_first t (omega arith)))))
 
--- the same with each premise apart
-module _ (p : ℕ) (unfit : Bool) (t : RowsRead) (policy : policy_wrong p ≡ false) (buffer : unfit ≡ false) where
-  pub own_apart : t.refusal.number ≢ 0 → refused t.refusal.number t.refusal.place ≡ table_read p unfit t
-  own_apart some = own_refused (record { policy = policy; buffer = buffer }) t some
-
-  pub count_low : t.refusal.number ≡ 0 → t.count < 1 → refused 5 0 ≡ table_read p unfit t
-  count_low own low = count_refused (record { policy = policy; buffer = buffer }) t own (rw (lt-leb _ _ low) refl)
-
-  pub count_high : t.refusal.number ≡ 0 → 1 ≤ t.count → 16 < t.count → refused 5 0 ≡ table_read p unfit t
-  count_high own low high = count_refused (record { policy = policy; buffer = buffer }) t own (rw (le-leb _ _ low, lt-leb _ _ high) refl)
-
-  pub read_apart : t.refusal.number ≡ 0 → 1 ≤ t.count → t.count ≤ 16 → length t.rows ≡ 16 → rows_read t ≡ table_read p unfit t
-  read_apart own low high full = rows_read_lem (record { policy = policy; buffer = buffer }) t own low high full
-
 -- what `check` replies, on each way through it
-pub ruleset replies = (policy_refused, buffer_refused, own_apart, count_low, count_high, read_apart)
+pub ruleset replies = (policy_refused, buffer_refused, own_refused, count_low, count_high, rows_read_lem)
