@@ -11,12 +11,12 @@ use native.Mathlib.Omega.{arith}
 use borrow.Author.Tests.{eqb-true, eqb-false, leb-true, ltb-true, ltb-false}
 use lib.Dec.{eqb, leb, ltb}
 use lib.ListN.{length, drop, get_or}
+use Rattle.std.specs.Prelude.{Result}
 use Rattle.rules.specs.declared.Row.{Row}
 use Rattle.rules.specs.declared.Refusal.{Refusal}
 use Rattle.rules.specs.Text.{lines, header, same, fields, is_digit, digits, inner, good, closed, nil, behind, shaped, all, well_formed, first_bad, ill_formed, bad_line, number, value, row_of, rows_of, breaks, opened, push}
 use Rattle.rules.specs.declared.Verdict.{Verdict}
 use Rattle.rules.specs.declared.ScheduleReply.{ScheduleReply}
-use Rattle.rules.specs.declared.WriteReply.{WriteReply}
 use Rattle.rules.specs.Table.{omax, hyper}
 use Rattle.rules.specs.Sources.{Source, text_source}
 use Rattle.rules.specs.Checks.{within, better, smallest, fault, place, found, checks, first_fault, refusal_of, check, policy_wrong, too_few, slots_wrong, verdict_refusal, refusal_for, slots_refusal, ids_refusal}
@@ -218,7 +218,8 @@ slots_low : (n : ℕ) → slots_wrong n ≡ false → n ≤ 65536
 slots_low n e = test (eqb (n % 2) 0) (λ h. ltb-false 65536 n (rw h at e)) (λ h. clash refl (rw h at e))
 
 module _ (s : Source) (small : SmallSource s) (p : ℕ) where
-  replies_small : (f : Refusal) (a : ℕ) (v : Verdict) → SmallR f → (f.number ≡ 0 → (refusal_of s).number ≡ 0) → Replies f (DecidesOf p a s) v → Small v
+  replies_small : (f : Refusal) (a : ℕ) (v : Verdict) → SmallR f → (f.number ≡ 0 → (refusal_of s).number ≡ 0)
+      → Replies f (DecidesOf p a s) v → Small v
   replies_small f a v h fine r = eq_case f.number 0
       (λ e. decides_small s (fine e) p a v (r.decided e))
       (λ e. rw (r.refused e) h)
@@ -229,7 +230,9 @@ module _ (s : Source) (small : SmallSource s) (p : ℕ) where
       (λ e. (check_none 0 (policy_wrong p) (refusal_of s) e).1)
 
   lent_small : (unfit : Bool) → SmallR (refusal_for p unfit s)
-  lent_small unfit = check_small 1 (policy_wrong p) (check 2 unfit (refusal_of s)) (omega arith) (check_small 2 unfit (refusal_of s) (omega arith) (read_small s small))
+  lent_small unfit =
+      check_small 1 (policy_wrong p) (check 2 unfit (refusal_of s)) (omega arith)
+      (check_small 2 unfit (refusal_of s) (omega arith) (read_small s small))
 
   pub bytes_small : (a n : ℕ) (v : Verdict) → Replies (bytes_refusal p n s) (DecidesOf p a s) v → Small v
   bytes_small a n v = replies_small (bytes_refusal p n s) a v (lent_small (ltb n 64)) (λ e. (lent_none p (ltb n 64) s e).1)
@@ -240,14 +243,18 @@ module _ (s : Source) (small : SmallSource s) (p : ℕ) where
       (λ e. let k = lent_none p (slots_wrong (length before)) s e in go v k.0 k.1 (w.filled e).0)
       (λ e. rw (w.refused e).0 (lent_small (slots_wrong (length before))))
     where
-      go : (v : ScheduleReply) → slots_wrong (length before) ≡ false → (refusal_of s).number ≡ 0 → Fills (system_of p s) c (length before / 2) v → SmallSchedule v
+      go : (v : ScheduleReply) → slots_wrong (length before) ≡ false → (refusal_of s).number ≡ 0
+          → Fills (system_of p s) c (length before / 2) v → SmallSchedule v
       go schedule.Filled h fine d = tt
       go (schedule.Missed t i) h fine d = (omega (arith, d.1, slots_low (length before) h), rw d.2 (missed_low s fine p c t))
       go (schedule.Refused n q) h fine d = absurd d
 
-pub ids_small : (s : Source) → SmallSource s → (before after : List ℕ) (v : WriteReply) → IdsAre s before after v → SmallWrite v
+pub ids_small : (s : Source) → SmallSource s → (before after : List ℕ) (v : Result ℕ Refusal) → IdsAre s before after v → SmallWrite v
 ids_small s small before after v d =
     let unfit = too_few (length before) in
     eq_case (ids_refusal (length before) s).number 0
     (λ e. rw (d.written e).0 (omega (arith, tasks_few s (check_none 1 unfit (refusal_of s) e).1, canonical_length s.rows)))
     (λ e. rw (d.refused e).0 (check_small 2 unfit (refusal_of s) (omega arith) (read_small s small)))
+
+-- what the exported functions cite: the checker's reply to a text is small, so that it has a number
+pub ruleset replies = (text_small, verdict_small, bytes_small, writes_small, ids_small)

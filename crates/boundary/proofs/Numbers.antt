@@ -1,13 +1,11 @@
--- Numbers as four bytes each: their lengths and parts, one turn of the loop that writes them, and a store of four bytes. The functions
--- of little use it, and Held.
-use mathlib.Core.Path.{◌≡◌, refl, ap, ◌∙◌}
+-- Numbers as four bytes each: how many there are, and those of the first numbers and of the others. `little::write` uses it, and Held.
+use mathlib.Core.Path.{◌≡◌, refl, sym, ap, ◌∙◌}
 use mathlib.Core.List.{List, [], ◌∷◌, ◌++◌}
-use Prim.Native.Nat.{ℕ, zero, suc, ◌+◌, ◌*◌, ◌≤◌, ◌<◌}
+use Prim.Native.Nat.{ℕ, zero, suc, ◌+◌, ◌*◌, ◌<◌}
 use native.Mathlib.Numerals.{add-one}
 use native.Mathlib.Omega.{arith}
-use lib.ListN.{length, get_or, set, take, drop, length-append, length-drop}
-use lib.Seq.{sets-eq, take-suc, length-take-le}
-use Rattle.basics.specs.Lists.{put_next}
+use lib.ListN.{length, get_or, take, drop}
+use lib.Seq.{take-suc, drop-drop}
 use Rattle.boundary.specs.Bytes.{four_of, bytes_of}
 
 -- LENGTHS AND PARTS
@@ -27,29 +25,13 @@ bytes_at [] zs i h = absurd (omega arith)
 bytes_at (x ∷ xs) zs zero h = refl
 bytes_at (x ∷ xs) zs (suc i) h = let e : 4 * suc i ≡ suc (suc (suc (suc (4 * i)))) = omega arith in rw e (bytes_at xs zs i (omega arith))
 
--- THE LOOP OF WRITE, of n numbers: the bytes of those passed, and then the bytes that stay
-abbrev pub Writing : ℕ → List ℕ → List ℕ → List ℕ → ℕ → Type 0
-Writing n xs before bs i = (i ≤ n) × (length bs ≡ length before) × (bs ≡ bytes_of (take i xs) ++ drop (4 * i) before)
-
-pub writing_turn : (n : ℕ) (xs before bs after : List ℕ) (i : ℕ) → n ≤ length xs → 4 * n ≤ length before → Writing n xs before bs i → i < n
-    → after ≡ take (4 * i) bs ++ four_of (get_or xs i 0) ++ drop (4 * i + 4) bs → Writing n xs before after (i + 1)
+-- one number more
+pub bytes_next : (xs : List ℕ) (i : ℕ) → i < length xs → bytes_of (take (i + 1) xs) ≡ bytes_of (take i xs) ++ four_of (get_or xs i 0)
 unfolding bytes_of
-writing_turn n xs before bs after i full wide w h e =
-    let size : length (bytes_of (take i xs)) ≡ 4 * i = rw (bytes_length, length-take-le i xs (omega arith)) refl in
-    let on : 4 * i + 4 ≡ 4 * suc i = omega arith in
-    let more : length (bytes_of (take (i + 1) xs)) ≡ 4 * (i + 1) = rw (bytes_length, length-take-le (i + 1) xs (omega arith)) refl in
-    let bytes : after ≡ bytes_of (take (i + 1) xs) ++ drop (4 * (i + 1)) before =
-    put_next (bytes_of (take i xs)) (four_of (get_or xs i 0)) before bs after (4 * i) size w.2 e ∙ rw (on, add-one i, take-suc xs i 0 (omega arith), bytes_append) in
-    (omega arith, ap length bytes ∙ rw (length-append, more, length-drop) (omega arith), bytes)
+bytes_next xs i h = rw (add-one i, take-suc xs i 0 h, bytes_append (take i xs) (get_or xs i 0 ∷ [])) refl
 
-pub writing_done : (n : ℕ) (xs before bs : List ℕ) (i : ℕ) → Writing n xs before bs i → n ≤ i → bs ≡ bytes_of (take n xs) ++ drop (4 * n) before
-writing_done n xs before bs i w h = let all : i ≡ n = omega arith in rw all at w.2
-
--- A STORE OF FOUR BYTES
-pub put_four : (bs : List ℕ) (k a b c d : ℕ) → k + 4 ≤ length bs
-    → set (set (set (set bs k a) (k + 1) b) (k + 2) c) (k + 3) d ≡ take k bs ++ (a ∷ b ∷ c ∷ d ∷ []) ++ drop (k + 4) bs
-put_four bs k a b c d h =
-    let one : k + 1 ≡ suc k = omega arith in
-    let two : k + 2 ≡ suc (suc k) = omega arith in
-    let three : k + 3 ≡ suc (suc (suc k)) = omega arith in
-    rw (one, two, three) (sets-eq (a ∷ b ∷ c ∷ d ∷ []) bs k h)
+-- and what stays behind it
+pub rest_next : (l before : List ℕ) (i : ℕ) → drop (4 * i) l ≡ drop (4 * i) before → drop (4 * (i + 1)) l ≡ drop (4 * (i + 1)) before
+rest_next l before i e =
+    let on : 4 * (i + 1) ≡ 4 * i + 4 = omega arith in
+    rw on (sym (drop-drop 4 (4 * i) l) ∙ ap (drop 4) e ∙ drop-drop 4 (4 * i) before)

@@ -21,7 +21,9 @@ use Rattle.boundary.specs.Packed.{packed, packed_schedule, packed_write}
 use Rattle.boundary.specs.Crossing.{bytes_refusal, HoldBytes, VerdictCrosses, ResponsesCross, ScheduleCrosses, AsRunCrosses, IdsCross}
 
 pub verdict_once : {p a : ℕ} {s : Source} {r q : ℕ} → VerdictCrosses p a s r → VerdictCrosses p a s q → r ≡ q
-verdict_once {p} {a} {s} c d = c.crosses ∙ ap packed (verdict_one (verdict_refusal p s) (system_of p s) (omax (tasks_of s)) (hyper (tasks_of s)) a c.reply d.reply c.right d.right) ∙ sym d.crosses
+verdict_once {p} {a} {s} c d =
+    let e = verdict_one (verdict_refusal p s) (system_of p s) (omax (tasks_of s)) (hyper (tasks_of s)) a c.reply d.reply c.right d.right in
+    c.crosses ∙ ap packed e ∙ sym d.crosses
 
 -- RESPONSES: number by number
 module _ (y : System) (before x z : List ℕ) (a : HoldBytes y before x) (b : HoldBytes y before z) where
@@ -31,26 +33,42 @@ module _ (y : System) (before x z : List ℕ) (a : HoldBytes y before x) (b : Ho
       let on : 4 * suc n ≡ 4 * n + 4 = omega arith in
       let u = a.worst n (omega arith) in
       let v = b.worst n (omega arith) in
-      rw (on, take-add (4 * n) 4 x, take-add (4 * n) 4 z, same_front n (omega arith), u.2.bytes, v.2.bytes, worst_one y n u.0 v.0 u.1 v.1) refl
+      rw (
+        on,
+        take-add (4 * n) 4 x,
+        take-add (4 * n) 4 z,
+        same_front n (omega arith),
+        u.2.bytes,
+        v.2.bytes,
+        worst_one y n u.0 v.0 u.1 v.1,
+      ) refl
 
   same_bytes : x ≡ z
   same_bytes =
       let n = 4 * y.tasks in
       sym (take-append-drop n x) ∙ rw (same_front y.tasks (omega arith), a.rest, ← b.rest) (take-append-drop n z)
 
-pub responses_once : {p a : ℕ} {s : Source} {before x z : List ℕ} {r q : ℕ} → ResponsesCross p a s before x r → ResponsesCross p a s before z q → (r ≡ q) × (x ≡ z)
+pub responses_once : {p a : ℕ} {s : Source} {before x z : List ℕ} {r q : ℕ} → ResponsesCross p a s before x r
+    → ResponsesCross p a s before z q → (r ≡ q) × (x ≡ z)
 responses_once {p} {a} {s} {before} {x} {z} c d =
-    let e = verdict_one (bytes_refusal p (length before) s) (system_of p s) (omax (tasks_of s)) (hyper (tasks_of s)) a c.reply d.reply c.right d.right in
-    (c.crosses ∙ ap packed e ∙ sym d.crosses, leaves_one d.reply before x z (same_bytes (system_of p s) before x z) (rw e at c.buffer) d.buffer)
+    let e = verdict_one (bytes_refusal p (length before) s) (system_of p s) (omax (tasks_of s)) (hyper (tasks_of s)) a
+    c.reply d.reply c.right d.right in (
+      c.crosses ∙ ap packed e ∙ sym d.crosses,
+      leaves_one d.reply before x z (same_bytes (system_of p s) before x z) (rw e at c.buffer) d.buffer,
+    )
 
-pub schedule_once : {p : ℕ} {s : Source} {before x z : List ℕ} {r q : ℕ} → ScheduleCrosses p s before x r → ScheduleCrosses p s before z q → (r ≡ q) × (x ≡ z)
+pub schedule_once : {p : ℕ} {s : Source} {before x z : List ℕ} {r q : ℕ} → ScheduleCrosses p s before x r
+    → ScheduleCrosses p s before z q → (r ≡ q) × (x ≡ z)
 schedule_once {p} {s} {before} {x} {z} c d =
-    let e = writes_one (slots_refusal p (length before) s) (system_of p s) (stated (system_of p s)) before x z c.reply d.reply c.right d.right in
+    let e = writes_one (slots_refusal p (length before) s) (system_of p s) (stated (system_of p s)) before x z
+    c.reply d.reply c.right d.right in
     (c.crosses ∙ ap packed_schedule e.0 ∙ sym d.crosses, e.1)
 
-pub as_run_once : {p : ℕ} {s : Source} {xs zs before x z : List ℕ} {r q : ℕ} → AsRunCrosses p s xs zs before x r → AsRunCrosses p s xs zs before z q → (r ≡ q) × (x ≡ z)
+pub as_run_once : {p : ℕ} {s : Source} {xs zs before x z : List ℕ} {r q : ℕ} → AsRunCrosses p s xs zs before x r
+    → AsRunCrosses p s xs zs before z q → (r ≡ q) × (x ≡ z)
 as_run_once {p} {s} {xs} {zs} {before} {x} {z} c d =
-    let e = writes_one (slots_refusal p (length before) s) (system_of p s) (listed (system_of p s) xs zs) before x z c.reply d.reply c.right d.right in
+    let e = writes_one (slots_refusal p (length before) s) (system_of p s) (listed (system_of p s) xs zs) before x z
+    c.reply d.reply c.right d.right in
     (c.crosses ∙ ap packed_schedule e.0 ∙ sym d.crosses, e.1)
 
 pub ids_once : {s : Source} {before x z : List ℕ} {r q : ℕ} → IdsCross s before x r → IdsCross s before z q → (r ≡ q) × (x ≡ z)

@@ -6,16 +6,16 @@ use Prim.Native.Nat.{ℕ, ◌+◌, ◌*◌, ◌/◌, ◌%◌, ◌≤◌, ◌<◌
 use native.Mathlib.Nat.{div-eq_of_lt-le}
 use native.Mathlib.Omega.{arith}
 use lib.ListN.{length}
+use Rattle.std.specs.Prelude.{Result, Ok, Err}
+use Rattle.rules.specs.declared.Refusal.{Refusal}
 use Rattle.rules.specs.declared.Verdict.{Verdict}
 use Rattle.rules.specs.declared.ScheduleReply.{ScheduleReply}
-use Rattle.rules.specs.declared.WriteReply.{WriteReply}
 use Rattle.rules.specs.Sources.{Source}
 use Rattle.rules.specs.Slots.{stated}
 use Rattle.rules.specs.AsRun.{listed}
 use Rattle.rules.specs.Verdicts.{system_of}
 use Rattle.rules.specs.declared.Verdict.TheVariants as verdict
 use Rattle.rules.specs.declared.ScheduleReply.TheVariants as schedule
-use Rattle.rules.specs.declared.WriteReply.TheVariants as write
 use Rattle.boundary.specs.Packed.{packed_miss, packed_refusal, packed, packed_schedule, packed_write, Parts, Unpacked, UnpackedSchedule, UnpackedWrite, Small, SmallSchedule, SmallWrite}
 use Rattle.boundary.specs.Crossing.{VerdictCrosses, ResponsesCross, ScheduleCrosses, AsRunCrosses, IdsCross}
 use Rattle.boundary.proofs.Bounds.{SmallSource, verdict_small, bytes_small, writes_small, ids_small}
@@ -41,7 +41,8 @@ parts_refusal r n p e h =
     record { kind = both.0; number = rw (both.0, both.1) number; place = rw both.0 place }
 
 unpacked : (v : Verdict) (r : ℕ) → Small v → r ≡ packed v → Unpacked v r
-unpacked (verdict.Accepted n) r h e = let both = apart r n 1 e (omega arith) in record { kind = both.0; number = rw both.0 both.1; place = rw both.0 refl }
+unpacked (verdict.Accepted n) r h e =
+    let both = apart r n 1 e (omega arith) in record { kind = both.0; number = rw both.0 both.1; place = rw both.0 refl }
 unpacked (verdict.Missed t i) r h e = parts_miss r t i e h.1
 unpacked verdict.Undecided r h e = rw e (record { kind = refl; number = refl; place = refl })
 unpacked (verdict.Refused n p) r h e = parts_refusal r n p e h.0
@@ -51,9 +52,10 @@ unpacked_schedule schedule.Filled r h e = rw e (record { kind = refl; number = r
 unpacked_schedule (schedule.Missed t i) r h e = parts_miss r t i e h.1
 unpacked_schedule (schedule.Refused n p) r h e = parts_refusal r n p e h.0
 
-unpacked_write : (v : WriteReply) (r : ℕ) → SmallWrite v → r ≡ packed_write v → UnpackedWrite v r
-unpacked_write (write.Written n) r h e = let both = apart r n 6 e (omega arith) in record { kind = both.0; number = rw both.0 both.1; place = rw both.0 refl }
-unpacked_write (write.Refused n p) r h e = parts_refusal r n p e h.0
+unpacked_write : (v : Result ℕ Refusal) (r : ℕ) → SmallWrite v → r ≡ packed_write v → UnpackedWrite v r
+unpacked_write (Ok n) r h e =
+    let both = apart r n 6 e (omega arith) in record { kind = both.0; number = rw both.0 both.1; place = rw both.0 refl }
+unpacked_write (Err f) r h e = parts_refusal r f.number f.place e h.0
 
 -- OF WHAT CROSSES
 module _ {s : Source} (small : SmallSource s) {p : ℕ} where
@@ -71,5 +73,6 @@ module _ {s : Source} (small : SmallSource s) {p : ℕ} where
   as_run_unpacked {xs} {zs} {before} {after} {r} c =
       unpacked_schedule c.reply r (writes_small s small p (listed (system_of p s) xs zs) before after c.reply c.right) c.crosses
 
-pub ids_unpacked : {s : Source} (small : SmallSource s) {before after : List ℕ} {r : ℕ} (c : IdsCross s before after r) → UnpackedWrite c.reply r
+pub ids_unpacked : {s : Source} (small : SmallSource s) {before after : List ℕ} {r : ℕ} (c : IdsCross s before after r)
+    → UnpackedWrite c.reply r
 ids_unpacked {s} small {before} {after} {r} c = unpacked_write c.reply r (ids_small s small before after c.reply c.right) c.crosses

@@ -1,10 +1,9 @@
 -- What crosses to the host: document 01, "The host program is written in C and calls the checker with numbers and byte slices", of
 -- whatever was read. Definitions.
-use Rattle.std.specs.Prelude.{◌≡◌, List, ℕ, ◌*◌, ◌^◌, ◌<◌, ltb, length, take, drop}
+use Rattle.std.specs.Prelude.{◌≡◌, List, ℕ, ◌*◌, ◌^◌, ◌<◌, ltb, length, take, drop, Result}
 use Rattle.rules.specs.declared.Refusal.{Refusal}
 use Rattle.rules.specs.declared.Verdict.{Verdict}
 use Rattle.rules.specs.declared.ScheduleReply.{ScheduleReply}
-use Rattle.rules.specs.declared.WriteReply.{WriteReply}
 use Rattle.rules.specs.Sources.{Source}
 use Rattle.rules.specs.Checks.{refusal_for}
 use Rattle.rules.specs.Policies.{System}
@@ -36,6 +35,11 @@ pub record HoldBytes (y : System) (before after : List ℕ) : Type 0 where
   pub worst : (i : ℕ) → i < y.tasks → (m : ℕ) × Worst y i m × Four m (4 * i) after
   pub rest : drop (4 * y.tasks) after ≡ drop (4 * y.tasks) before
 
+-- the reply, and what it leaves in the lent bytes
+pub record RespondsTo (p a : ℕ) (s : Source) (before after : List ℕ) (reply : Verdict) : Type 0 where
+  pub right : Replies (bytes_refusal p (length before) s) (DecidesOf p a s) reply
+  pub buffer : Leaves (HoldBytes (system_of p s) before after) reply before after
+
 pub record ResponsesCross (p a : ℕ) (s : Source) (before after : List ℕ) (r : ℕ) : Type 0 where
   pub reply : Verdict
   pub right : Replies (bytes_refusal p (length before) s) (DecidesOf p a s) reply
@@ -55,6 +59,6 @@ pub record AsRunCrosses (p : ℕ) (s : Source) (xs zs before after : List ℕ) (
 
 -- IDS: likewise
 pub record IdsCross (s : Source) (before after : List ℕ) (r : ℕ) : Type 0 where
-  pub reply : WriteReply
+  pub reply : Result ℕ Refusal
   pub right : IdsAre s before after reply
   pub crosses : r ≡ packed_write reply

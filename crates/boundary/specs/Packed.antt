@@ -1,14 +1,23 @@
 -- A reply as one number, and how the host's header takes it apart again. Definitions.
-use Rattle.std.specs.Prelude.{◌≡◌, cond, ◌||◌, ℕ, ◌+◌, ◌*◌, ◌/◌, ◌%◌, ◌^◌, ◌≤◌, ◌<◌, eqb}
+use Rattle.std.specs.Prelude.{◌≡◌, cond, ◌||◌, ℕ, ◌+◌, ◌*◌, ◌/◌, ◌%◌, ◌^◌, ◌≤◌, ◌<◌, eqb, Result, Ok, Err}
+use Rattle.rules.specs.declared.Refusal.{Refusal}
 use Rattle.rules.specs.declared.Verdict.{Verdict}
 use Rattle.rules.specs.declared.ScheduleReply.{ScheduleReply}
-use Rattle.rules.specs.declared.WriteReply.{WriteReply}
 use Rattle.rules.specs.declared.Verdict.TheVariants as verdict
 use Rattle.rules.specs.declared.ScheduleReply.TheVariants as schedule
-use Rattle.rules.specs.declared.WriteReply.TheVariants as write
+use Rattle.boundary.specs.declared.pack.Kind.{Kind}
+use Rattle.boundary.specs.declared.pack.Kind.TheVariants.{Accepted, Missed, Undecided, Refused, Filled, Written}
 
 -- THE NUMBER: the kind, 1 accepted, 2 missed, 3 undecided, 4 refused, 5 filled, 6 written, is below 16; ids are below 256 and numbers
 -- of refusals below 32
+abbrev pub kind_number : Kind → ℕ
+kind_number Accepted = 1
+kind_number Missed = 2
+kind_number Undecided = 3
+kind_number Refused = 4
+kind_number Filled = 5
+kind_number Written = 6
+
 abbrev pub packed_miss : ℕ → ℕ → ℕ
 packed_miss t i = (t * 256 + i) * 16 + 2
 
@@ -26,9 +35,9 @@ packed_schedule schedule.Filled = 5
 packed_schedule (schedule.Missed t i) = packed_miss t i
 packed_schedule (schedule.Refused n p) = packed_refusal n p
 
-abbrev pub packed_write : WriteReply → ℕ
-packed_write (write.Written n) = n * 16 + 6
-packed_write (write.Refused n p) = packed_refusal n p
+abbrev pub packed_write : Result ℕ Refusal → ℕ
+packed_write (Ok n) = n * 16 + 6
+packed_write (Err f) = packed_refusal f.number f.place
 
 -- TAKEN APART: otter_kind, otter_number and otter_place of the header
 abbrev pub kind_of : ℕ → ℕ
@@ -61,9 +70,9 @@ UnpackedSchedule schedule.Filled = Parts 5 0 0
 UnpackedSchedule (schedule.Missed t i) = Parts 2 t i
 UnpackedSchedule (schedule.Refused n p) = Parts 4 n p
 
-abbrev pub UnpackedWrite : WriteReply → ℕ → Type 0
-UnpackedWrite (write.Written n) = Parts 6 n 0
-UnpackedWrite (write.Refused n p) = Parts 4 n p
+abbrev pub UnpackedWrite : Result ℕ Refusal → ℕ → Type 0
+UnpackedWrite (Ok n) = Parts 6 n 0
+UnpackedWrite (Err f) = Parts 4 f.number f.place
 
 -- HOW LARGE A REPLY IS: times are at most 2^48, the allowance that always decides, and no more is written; numbers of refusals are below
 -- 32; places are lines of a text, or ids as they were read
@@ -84,6 +93,6 @@ SmallSchedule schedule.Filled = Unit
 SmallSchedule (schedule.Missed t i) = SmallMiss t i
 SmallSchedule (schedule.Refused n p) = SmallRefusal n p
 
-abbrev pub SmallWrite : WriteReply → Type 0
-SmallWrite (write.Written n) = n ≤ 2 ^ 48
-SmallWrite (write.Refused n p) = SmallRefusal n p
+abbrev pub SmallWrite : Result ℕ Refusal → Type 0
+SmallWrite (Ok n) = n ≤ 2 ^ 48
+SmallWrite (Err f) = SmallRefusal f.number f.place

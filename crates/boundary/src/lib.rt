@@ -3,26 +3,26 @@
 #![tactic(auto)]
 
 ghost use Rattle.rules.specs.Sources.{text_source};
-ghost use Rattle.boundary.specs.Crossing.{VerdictCrosses, ResponsesCross, ScheduleCrosses, AsRunCrosses, IdsCross};
+ghost use Rattle.boundary.specs.Crossing.{VerdictCrosses, RespondsTo, ResponsesCross, ScheduleCrosses, AsRunCrosses, IdsCross};
+
+use crate::pack::Reply;
+use rules::{Table, Verdict};
 
 mod little;
 mod pack;
 
-// The bytes that responses are lent, four a number.
-const RESPONSES_LEN: usize = 64;
-
 // Is the table on time under this policy? It spends an allowance of slots.
 #[unsafe(no_mangle)]
+#[tactic(auto, using(crate::proofs::Bounds::replies))]
 pub extern "C" fn otter_verdict(policy: u32, allowance: u64, text: &[u8]) -> u64
     ensures { VerdictCrosses policy allowance (text_source text.now) result }
 {
-    pack::verdict(checker::verdict(policy, allowance, text))
+    checker::verdict(policy, allowance, text).pack()
 }
 
-// The verdict; if it is accepted, the lent bytes hold the worst responses in ascending id, four bytes each. The checker is lent numbers
-// of our own, and only then are they written: a contract sees values and not stores, but memory that may not be written to does.
+// The verdict; if it is accepted, the lent bytes hold the worst responses in ascending id, four bytes each.
 #[unsafe(no_mangle)]
-#[tactic(auto, using(crate::proofs::Held::room, crate::proofs::Held::stores))]
+#[tactic(auto, using(crate::proofs::Bounds::replies))]
 pub extern "C" fn otter_responses(
     policy: u32,
     allowance: u64,
@@ -31,32 +31,39 @@ pub extern "C" fn otter_responses(
 ) -> u64
     ensures { ResponsesCross policy allowance (text_source text.now) responses.old responses.new result }
 {
-    if table::policy_wrong(policy) {
-        return pack::refused(table::POLICY_WRONG);
-    }
-    if responses.len() < RESPONSES_LEN {
-        return pack::refused(table::BUFFER_WRONG);
-    }
+    respond(policy, allowance, text, responses).pack()
+}
+
+// The checker is lent numbers of our own, as many as there are bytes for, and only where it accepts are bytes written: a contract sees
+// values and not stores, but memory that may not be written to does.
+fn respond(policy: u32, allowance: u64, text: &[u8], responses: &mut [u8]) -> Verdict
+    ensures { RespondsTo policy allowance (text_source text.now) responses.old responses.new result }
+{
     let source = table_csv::read_rows(text);
+    let rows = source.map_or(0, |read| read.count);
     let mut numbers = [0u32; 16];
-    let v = checker::responses_of(policy, allowance, source, &mut numbers);
-    if checker::accepted(v) {
-        little::write(source.count, &numbers, responses);
-        return pack::verdict(v);
-    }
-    pack::verdict(v)
+    let lent = (responses.len() / little::SIZE).min(Table::MAX_ROWS);
+    let reply = checker::responses(policy, allowance, source, &mut numbers[..lent]);
+    let held = match reply {
+        Verdict::Accepted(_) => rows,
+        _ => 0,
+    };
+    little::write(&numbers[..held], responses);
+    reply
 }
 
 // Two bytes a slot, id and kind, of the schedule.
 #[unsafe(no_mangle)]
+#[tactic(auto, using(crate::proofs::Bounds::replies))]
 pub extern "C" fn otter_schedule(policy: u32, text: &[u8], slots: &mut [u8]) -> u64
     ensures { ScheduleCrosses policy (text_source text.now) slots.old slots.new result }
 {
-    pack::schedule(checker::schedule(policy, text, slots))
+    checker::schedule(policy, text, slots).pack()
 }
 
 // Two bytes a slot, id and kind, of the run with these requests and loading lengths.
 #[unsafe(no_mangle)]
+#[tactic(auto, using(crate::proofs::Bounds::replies))]
 pub extern "C" fn otter_as_run(
     policy: u32,
     text: &[u8],
@@ -66,13 +73,14 @@ pub extern "C" fn otter_as_run(
 ) -> u64
     ensures { AsRunCrosses policy (text_source text.now) requests.now loadings.now slots.old slots.new result }
 {
-    pack::schedule(checker::as_run(policy, text, requests, loadings, slots))
+    checker::as_run(policy, text, requests, loadings, slots).pack()
 }
 
 // The ids in ascending order, a byte each, as the responses are.
 #[unsafe(no_mangle)]
+#[tactic(auto, using(crate::proofs::Bounds::replies))]
 pub extern "C" fn otter_ids(text: &[u8], ids: &mut [u8]) -> u64
     ensures { IdsCross (text_source text.now) ids.old ids.new result }
 {
-    pack::write(checker::ids(text, ids))
+    checker::ids(text, ids).pack()
 }

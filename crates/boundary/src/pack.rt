@@ -1,22 +1,35 @@
 // A reply as one number: the kind in the lowest place, then the number and the place.
-ghost use Rattle.std.specs.Prelude.{◌≡◌, ◌<◌};
-ghost use Rattle.rules.specs.declared.Verdict.TheVariants.{Refused};
-ghost use Rattle.boundary.specs.Packed.{packed_miss, packed_refusal, packed, packed_schedule, packed_write, SmallMiss, SmallRefusal, Small, SmallSchedule, SmallWrite};
+ghost use Rattle.std.specs.Prelude.{◌≡◌, ℕ};
+ghost use Rattle.boundary.specs.Packed.{kind_number, packed_miss, packed_refusal, packed, packed_schedule, packed_write, SmallMiss, SmallRefusal, Small, SmallSchedule, SmallWrite};
 
-use rules::{ScheduleReply, Verdict, WriteReply};
+use rules::{Refusal, ScheduleReply, Verdict};
 
 // The kinds of a reply.
-const ACCEPTED: u64 = 1;
+#[derive(Clone, Copy, Debug, PartialEq, Eq)]
+pub enum Kind {
+    Accepted,
+    Missed,
+    Undecided,
+    Refused,
+    Filled,
+    Written,
+}
 
-const MISSED: u64 = 2;
-
-const UNDECIDED: u64 = 3;
-
-const REFUSED: u64 = 4;
-
-const FILLED: u64 = 5;
-
-const WRITTEN: u64 = 6;
+impl Kind {
+    // The number that the C header has for it.
+    fn number(self) -> u64
+        ensures { result ≡ kind_number self }
+    {
+        match self {
+            Kind::Accepted => 1,
+            Kind::Missed => 2,
+            Kind::Undecided => 3,
+            Kind::Refused => 4,
+            Kind::Filled => 5,
+            Kind::Written => 6,
+        }
+    }
+}
 
 // Room for a kind, for an id and for the number of a refusal.
 const KINDS: u64 = 16;
@@ -25,57 +38,69 @@ const IDS: u64 = 256;
 
 const REFUSALS: u64 = 32;
 
+// A reply that crosses as one number, where it is small enough.
+pub trait Reply {
+    ghost number: { Self → ℕ };
+
+    ghost small: { Self → Type 0 };
+
+    fn pack(self) -> u64
+        requires { small self }
+        ensures { result ≡ number self };
+}
+
+impl Reply for Verdict {
+    ghost number = { packed };
+
+    ghost small = { Small };
+
+    fn pack(self) -> u64 {
+        match self {
+            Verdict::Accepted(n) => n * KINDS + Kind::Accepted.number(),
+            Verdict::Missed { time, id } => missed(time, id),
+            Verdict::Undecided => Kind::Undecided.number(),
+            Verdict::Refused { number, place } => refused(number, place),
+        }
+    }
+}
+
+impl Reply for ScheduleReply {
+    ghost number = { packed_schedule };
+
+    ghost small = { SmallSchedule };
+
+    fn pack(self) -> u64 {
+        match self {
+            ScheduleReply::Filled => Kind::Filled.number(),
+            ScheduleReply::Missed { time, id } => missed(time, id),
+            ScheduleReply::Refused { number, place } => refused(number, place),
+        }
+    }
+}
+
+impl Reply for Result<u64, Refusal> {
+    ghost number = { packed_write };
+
+    ghost small = { SmallWrite };
+
+    fn pack(self) -> u64 {
+        match self {
+            Ok(n) => n * KINDS + Kind::Written.number(),
+            Err(f) => refused(f.number, f.place),
+        }
+    }
+}
+
 fn missed(time: u64, id: u32) -> u64
     requires { SmallMiss time id }
     ensures { result ≡ packed_miss time id }
 {
-    (time * IDS + id as u64) * KINDS + MISSED
+    (time * IDS + id as u64) * KINDS + Kind::Missed.number()
 }
 
-fn refusal(number: u32, place: u64) -> u64
+fn refused(number: u32, place: u64) -> u64
     requires { SmallRefusal number place }
     ensures { result ≡ packed_refusal number place }
 {
-    (place * REFUSALS + number as u64) * KINDS + REFUSED
-}
-
-// A refusal whose place is 0.
-pub fn refused(number: u32) -> u64
-    requires { number < 32 }
-    ensures { result ≡ packed (Refused number 0) }
-{
-    refusal(number, 0)
-}
-
-pub fn verdict(v: Verdict) -> u64
-    requires { Small v }
-    ensures { result ≡ packed v }
-{
-    match v {
-        Verdict::Accepted(n) => n * KINDS + ACCEPTED,
-        Verdict::Missed { time, id } => missed(time, id),
-        Verdict::Undecided => UNDECIDED,
-        Verdict::Refused { number, place } => refusal(number, place),
-    }
-}
-
-pub fn schedule(v: ScheduleReply) -> u64
-    requires { SmallSchedule v }
-    ensures { result ≡ packed_schedule v }
-{
-    match v {
-        ScheduleReply::Filled => FILLED,
-        ScheduleReply::Missed { time, id } => missed(time, id),
-        ScheduleReply::Refused { number, place } => refusal(number, place),
-    }
-}
-
-pub fn write(v: WriteReply) -> u64
-    requires { SmallWrite v }
-    ensures { result ≡ packed_write v }
-{
-    match v {
-        WriteReply::Written(n) => n * KINDS + WRITTEN,
-        WriteReply::Refused { number, place } => refusal(number, place),
-    }
+    (place * REFUSALS + number as u64) * KINDS + Kind::Refused.number()
 }

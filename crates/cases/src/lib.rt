@@ -1,222 +1,173 @@
-// What the programs that run vectors share, and no other crate uses: how a line of input is cut at its bars, how a text is
-// written in it, and how words and numbers are written out. A line is a reason, a bar and a case; a line without a bar is a
-// heading.
+// What the programs that run vectors share, and no other crate uses: how their input is cut into lines and a line at its bar, and
+// how a text is written in it. A line is a reason, a bar and a case; a line without a bar is a heading.
 //
 // In a text round brackets stand around a row, and in them a blank for its comma: (1 0 2 5 5 1 1 1). After a backslash h stands
 // for the header with its line end, m for ten rows, c for a hundred zeros, r, n, t, 0 and x for CR, LF, tab, NUL and byte 255,
 // any other byte for itself.
 #![tactic(auto)]
 
-ghost use Rattle.std.specs.Prelude.{◌-◌, ◌≤◌, length};
+ghost use Rattle.std.specs.Prelude.{◌≡◌, ◌==◌, ◌≤◌, IfOk, MatchOption, None, vec_len};
+ghost use Rattle.std.specs.List.{before_first, after_first, position};
+ghost use Rattle.cases.specs.declared.TheConstants.{ROOM};
 
-use std::io;
+use std::alloc::{AllocError, Global};
+use std::{io, mem};
 
 // Room for a text, over the limit of 4,096 bytes.
 pub const ROOM: usize = 5_000;
 
-// OUTPUT
+const HEADER: &[u8] = b"id,offset,wcet,deadline,period,start,resume,priority\r\n";
 
-pub fn word(rt: &impl Print, bytes: &[u8]) -> io::Result<()> {
-    rt.write_all(bytes)
-}
+const ROW: &[u8] = b"1,0,1,2,2,0,0,1\r\n";
 
-// A blank and a number.
-pub fn put(rt: &impl Print, x: u64) -> io::Result<()> {
-    print!(rt; " {x}")
-}
+// LINES
 
-// PARTS OF A TEXT
-
-// The lesser of a length and what there is room for.
-pub fn fitting(n: usize, most: usize) -> usize
-    ensures { result ≤ most }
+// Where the first b stands.
+fn find(text: &[u8], b: u8) -> Option<usize>
+    ensures { result ≡ position (λ x. x == b) text.now }
 {
-    if n < most {
-        return n;
+    text.iter().position(|x| *x == b)
+}
+
+// The bytes before the first b and those behind it, if there is one.
+fn split_once(text: &[u8], b: u8) -> Option<(&[u8], &[u8])>
+    ensures { MatchOption result
+        (position (λ x. x == b) text.now ≡ None)
+        (λ p. (p.0.now ≡ before_first (λ x. x == b) text.now) × (p.1.now ≡ after_first (λ x. x == b) text.now)) }
+{
+    let k = find(text, b)?;
+    Some((&text[..k], &text[k + 1..]))
+}
+
+// Reads standard input into the lent bytes, as much as they hold, and writes for each of its lines the reason and, where a case
+// follows, an arrow and what `reply` writes to it.
+pub fn reply_to_each<R: Input + Print, F: FnMut(&[u8]) -> io::Result<()>>(
+    rt: &R,
+    buffer: &mut [u8],
+    mut reply: F,
+) -> io::Result<()>
+    requires { F.IsAlwaysCallable reply }
+{
+    let n = input::read_full(rt.reader(), buffer)?;
+    for ended in buffer[..n].split_inclusive(|b| *b == b'\n') {
+        let line = ended.strip_suffix(b"\n").unwrap_or(ended);
+        match split_once(line, b'|') {
+            None => rt.write_all(line)?,
+            Some((reason, case)) => {
+                rt.write_all(reason)?;
+                rt.write_all(b" ->")?;
+                reply(case)?;
+            }
+        }
+        rt.write_all(b"\n")?;
     }
-    most
+    Ok(())
 }
 
-// The first n bytes, or all.
-pub fn start(text: &[u8], n: usize) -> &[u8] {
-    let m = fitting(n, text.len());
-    &text[..m]
+// A WRITTEN TEXT
+
+// What a written text stands for, as far as it is read, and how its next byte is meant.
+#[derive(Drop)]
+struct Decoder {
+    text: Vec<u8>,
+    // A row's bracket is open.
+    in_row: bool,
+    // A backslash stood before.
+    escaped: bool,
+    ghost fits: { vec_len text ≤ ROOM },
 }
 
-// How many bytes stand before the first b.
-fn find(text: &[u8], b: u8) -> usize
-    ensures { result ≤ length text.now }
-{
-    for (i, x) in text.iter().enumerate() {
-        if *x == b {
-            return i;
+impl Decoder {
+    // Adds a part, as far as there is room.
+    fn put(&mut self, part: &[u8]) -> Result<(), AllocError> {
+        let n = part.len().min(ROOM - self.text.len());
+        self.text.extend_from_slice(&part[..n])
+    }
+
+    fn put_ten_rows(&mut self) -> Result<(), AllocError> {
+        for _ in 0..10 {
+            self.put(ROW)?;
+        }
+        Ok(())
+    }
+
+    // A byte behind a backslash.
+    fn put_code(&mut self, c: u8) -> Result<(), AllocError> {
+        match c {
+            b'h' => self.put(HEADER),
+            b'm' => self.put_ten_rows(),
+            b'c' => self.put(&[b'0'; 100]),
+            b'r' => self.put(b"\r"),
+            b'n' => self.put(b"\n"),
+            b't' => self.put(b"\t"),
+            b'0' => self.put(b"\0"),
+            b'x' => self.put(b"\xff"),
+            _ => self.put(&[c]),
         }
     }
-    text.len()
+
+    // Any other byte.
+    fn put_plain(&mut self, c: u8) -> Result<(), AllocError> {
+        match c {
+            b'\\' => {
+                self.escaped = true;
+                Ok(())
+            }
+            b'(' => {
+                self.in_row = true;
+                Ok(())
+            }
+            b')' => {
+                self.in_row = false;
+                self.put(b"\r\n")
+            }
+            b' ' if self.in_row => self.put(b","),
+            _ => self.put(&[c]),
+        }
+    }
+
+    fn put_byte(&mut self, c: u8) -> Result<(), AllocError> {
+        if mem::replace(&mut self.escaped, false) {
+            self.put_code(c)
+        } else {
+            self.put_plain(c)
+        }
+    }
 }
 
-// Those and the b itself, if there is one: at least one byte, if there is any.
-fn through(text: &[u8], b: u8) -> usize
-    ensures { (result ≤ length text.now) × (length text.now - result ≤ length text.now - 1) }
+// The text that is written so: its first bytes, as many as there is room for.
+pub fn decode(alloc: Global, written: &[u8]) -> Result<Vec<u8>, AllocError>
+    ensures { IfOk result (λ text. vec_len text ≤ ROOM) }
 {
-    let k = find(text, b);
-    if k < text.len() {
-        return k + 1;
+    let mut decoder = Decoder {
+        text: Vec::new(alloc),
+        in_row: false,
+        escaped: false,
+    };
+    for c in written {
+        decoder.put_byte(*c)?;
     }
-    k
+    Ok(decoder.text)
 }
 
-// The bytes before the first b, or all.
-pub fn before(text: &[u8], b: u8) -> &[u8] {
-    start(text, find(text, b))
-}
+#[cfg(test)]
+mod tests {
+    use super::{ROOM, decode};
+    use std::alloc::AllocError;
 
-// The bytes behind the first b, or none: fewer than there were, if there were any.
-pub fn behind(text: &[u8], b: u8) -> &[u8]
-    ensures { length result.now ≤ length text.now - 1 }
-{
-    let m = through(text, b);
-    &text[m..]
-}
+    #[test]
+    fn a_text_is_decoded(rt: HostRuntime) -> Result<(), AllocError> {
+        let text = decode(rt.alloc(), b"a b\\r\\n(1 (2) 3\\(\\ \\\\\\0\\x\\")?;
+        assert_eq!(rt; text.as_slice(), b"a b\r\n1,2\r\n 3( \\\0\xff".as_slice());
+        Ok(())
+    }
 
-// A LINE
-
-// Writes a line's reason, and an arrow if a bar follows; whether one does.
-pub fn reason(rt: &impl Print, line: &[u8]) -> io::Result<bool> {
-    word(rt, before(line, b'|'))?;
-    if find(line, b'|') < line.len() {
-        word(rt, b" ->")?;
-        return Ok(true);
+    #[test]
+    fn a_text_is_cut_off_where_the_room_ends(rt: HostRuntime) -> Result<(), AllocError> {
+        let written = b"\\m".repeat(rt.alloc(), 40)?;
+        let text = decode(rt.alloc(), &written)?;
+        assert_eq!(rt; text.len(), ROOM);
+        assert!(rt; text.ends_with(b"\r\n1,"));
+        Ok(())
     }
-    Ok(false)
-}
-
-// A WRITTEN TEXT, put into the buffer from a place on, as far as there is room; the place after it
-
-fn push(buffer: &mut [u8; ROOM], at: usize, b: u8) -> usize {
-    if at < ROOM {
-        buffer[at] = b;
-        return at + 1;
-    }
-    at
-}
-
-fn append(buffer: &mut [u8; ROOM], from: usize, part: &[u8]) -> usize {
-    let mut at = from;
-    for b in part {
-        at = push(buffer, at, *b);
-    }
-    at
-}
-
-fn header(buffer: &mut [u8; ROOM], at: usize) -> usize {
-    append(
-        buffer,
-        at,
-        b"id,offset,wcet,deadline,period,start,resume,priority\r\n",
-    )
-}
-
-fn ten_rows(buffer: &mut [u8; ROOM], from: usize) -> usize {
-    let mut at = from;
-    for _ in 0..10 {
-        at = append(buffer, at, b"1,0,1,2,2,0,0,1\r\n");
-    }
-    at
-}
-
-fn hundred_zeros(buffer: &mut [u8; ROOM], at: usize) -> usize {
-    append(
-        buffer,
-        at,
-        b"0000000000000000000000000000000000000000000000000000000000000000000000000000000000000000000000000000",
-    )
-}
-
-// What a byte after a backslash stands for, if for one byte.
-fn byte_of(c: u8) -> u8 {
-    match c {
-        b'r' => b'\r',
-        b'n' => b'\n',
-        b't' => b'\t',
-        b'0' => 0,
-        b'x' => 255,
-        _ => c,
-    }
-}
-
-fn put_code(buffer: &mut [u8; ROOM], at: usize, c: u8) -> usize {
-    if c == b'h' {
-        return header(buffer, at);
-    }
-    if c == b'm' {
-        return ten_rows(buffer, at);
-    }
-    if c == b'c' {
-        return hundred_zeros(buffer, at);
-    }
-    push(buffer, at, byte_of(c))
-}
-
-fn separator(in_row: bool) -> u8 {
-    if in_row {
-        return b',';
-    }
-    b' '
-}
-
-fn put_plain(buffer: &mut [u8; ROOM], at: usize, in_row: bool, c: u8) -> usize {
-    if c == b'(' {
-        return at;
-    }
-    if c == b')' {
-        return append(buffer, at, b"\r\n");
-    }
-    if c == b' ' {
-        return push(buffer, at, separator(in_row));
-    }
-    push(buffer, at, c)
-}
-
-// A byte of a written text, which a backslash precedes or not.
-fn put_byte(buffer: &mut [u8; ROOM], at: usize, escaped: bool, in_row: bool, c: u8) -> usize {
-    if escaped {
-        return put_code(buffer, at, c);
-    }
-    if c == b'\\' {
-        return at;
-    }
-    put_plain(buffer, at, in_row, c)
-}
-
-fn escapes(escaped: bool, c: u8) -> bool {
-    if escaped {
-        return false;
-    }
-    c == b'\\'
-}
-
-// Whether what follows c stands in a row.
-fn still_in_row(escaped: bool, in_row: bool, c: u8) -> bool {
-    if escaped {
-        return in_row;
-    }
-    if in_row {
-        return c != b')';
-    }
-    c == b'('
-}
-
-// Puts the text that is written so at the buffer's start; its length.
-pub fn decode(buffer: &mut [u8; ROOM], written: &[u8]) -> usize {
-    let mut at: usize = 0;
-    let mut escaped = false;
-    let mut in_row = false;
-    for b in written {
-        let c = *b;
-        at = put_byte(buffer, at, escaped, in_row, c);
-        in_row = still_in_row(escaped, in_row, c);
-        escaped = escapes(escaped, c);
-    }
-    at
 }

@@ -1,25 +1,25 @@
--- What the code holds after the checks: the refusal that the rules give; or, where there is none, a sound table whose tasks are the
--- source's. The four replies use it.
+-- What the checks leave of a source: the refusal that the rules give, or a sound table of its tasks. `checked` uses it.
 use mathlib.Core.Path.{◌≡◌, sym, ap, ◌∙◌}
-use mathlib.Core.Bool.{Bool, false}
+use mathlib.Core.Bool.{Bool}
 use Prim.Native.Nat.{ℕ, ◌≤◌}
 use native.Mathlib.Omega.{arith}
-use borrow.Author.Tests.{eq-eqb}
+use borrow.Author.Tests.{eq-eqb, ne_eqb}
 use lib.ListN.{length, take, drop}
 use lib.Seq.{length_front, length-take-le, take_at}
+use Rattle.std.specs.Prelude.{Result, Ok, Err, MatchResult}
 use Rattle.rules.specs.declared.Refusal.{Refusal}
 use Rattle.rules.specs.declared.RowsRead.{RowsRead}
+use Rattle.rules.specs.declared.Table.{Table}
 use Rattle.rules.specs.Table.{canonical}
-use Rattle.rules.specs.Sources.{rows_in, source_of}
-use Rattle.rules.specs.Checks.{refusal_of, refusal_for}
-use Rattle.rules.specs.Policies.{policy, system}
-use Rattle.rules.specs.Verdicts.{tasks_of, system_of}
+use Rattle.rules.specs.Sources.{Source, rows_in, source_of}
+use Rattle.rules.specs.Checks.{check, policy_wrong, refusal_for}
+use Rattle.basics.specs.Cases.{eq_case}
 use Rattle.reordering.specs.Canonical.{canonical_length, canonical_omax, canonical_hyper}
 use Rattle.reordering.specs.Passed.{Passed, passed, lent_none, passed_canonical}
-use Rattle.reordering.specs.Alike.{rows_count, rows_first}
-use Rattle.table.specs.declared.TableRead.{TableRead}
-use Rattle.table.specs.Tables.{table_in, table_read}
-use Rattle.machine.specs.Machine.{Sound, live, system_in}
+use Rattle.reordering.specs.Alike.{Alike, rows_count, rows_first}
+use Rattle.table.specs.Tables.{table_in, table_of, table_read}
+use Rattle.machine.specs.Machine.{Sound, live}
+use Rattle.checker.specs.Outcomes.{Passes, Fails}
 
 -- THE TABLE of rows that pass, of which sixteen are held
 module _ (s : RowsRead) (full : length s.rows ≡ 16) (p : Passed (rows_in s)) where
@@ -44,32 +44,30 @@ module _ (s : RowsRead) (full : length s.rows ≡ 16) (p : Passed (rows_in s)) w
     hyper = rw (live_rows, rows_are) (sym (canonical_hyper (take s.count s.rows)));
   }
 
--- WHAT `check` HANDS OVER, as the code holds it: g
-module _ (p : ℕ) (b : Bool) (s : RowsRead) {g : TableRead} (e : g ≡ table_read p b s) where
-  pub refusal_in : refusal_for p b (source_of s) ≡ g.refusal
+-- WHAT IS READ OF A SOURCE o, as the code holds it: s, of which the code says whether it is refused
+module _ (p : ℕ) (unfit : Bool) (o : Source) where
+  same_refusal : {s : Source} → Alike s o → refusal_for p unfit s ≡ refusal_for p unfit o
+  same_refusal alike = ap (λ (f : Refusal). check 1 (policy_wrong p) (check 2 unfit f)) alike.refusal
+
+  passes_in : (s : Result RowsRead Refusal) → MatchResult s (λ r. length r.rows ≡ 16) (λ f. Unit {0}) → Alike (source_of s) o
+      → (refusal_for p unfit (source_of s)).number ≡ 0 → Passes p unfit o (table_of s)
+  passes_in (Ok r) full alike none =
+      let fine = lent_none p unfit (source_of (Ok r)) none in
+      let rows = (passed (source_of (Ok r)) fine.1).1 in
+      record {
+        none = rw (same_refusal alike) at none;
+        fit = fine.0;
+        sound = sound_rows r full rows;
+        tasks = live_rows r full rows ∙ alike.tasks fine.1;
+      }
+  passes_in (Err f) full alike none =
+      let rows = (passed (source_of (Err f)) (lent_none p unfit (source_of (Err f)) none).1).1 in absurd (omega (arith, rows.some))
+
+  pub check_in : (s : Result RowsRead Refusal) → MatchResult s (λ r. length r.rows ≡ 16) (λ f. Unit {0}) → Alike (source_of s) o
+      → (g : Result Table Refusal) → g ≡ table_read p unfit s → MatchResult g (Passes p unfit o) (Fails p unfit o)
   unfolding table_read
-  refusal_in = ap (λ (r : TableRead). r.refusal) (sym e)
-
-  module _ (fine : g.refusal.number ≡ 0) where
-    pub none_in : (refusal_for p b (source_of s)).number ≡ 0
-    none_in = ap (λ (f : Refusal). f.number) refusal_in ∙ fine
-
-    passes : (b ≡ false) × ((refusal_of (source_of s)).number ≡ 0)
-    passes = lent_none p b (source_of s) none_in
-
-    pub fit_in : b ≡ false
-    fit_in = passes.0
-
-    table_in_lem : g.table ≡ table_in s
-    unfolding table_read
-    table_in_lem = ap (λ (r : TableRead). r.table) e ∙ rw (eq-eqb (refusal_for p b (source_of s)).number 0 none_in)
-
-    module _ (full : length s.rows ≡ 16) where
-      pub sound_in : Sound g.table
-      sound_in = rw table_in_lem (sound_rows s full (passed (source_of s) passes.1).1)
-
-      pub tasks_in : live g.table ≡ tasks_of (source_of s)
-      tasks_in = rw table_in_lem (live_rows s full (passed (source_of s) passes.1).1)
-
-      pub system_in_lem : system_in p g.table ≡ system_of p (source_of s)
-      system_in_lem = ap (system (policy p)) tasks_in
+  check_in s full alike g e =
+      let f = refusal_for p unfit (source_of s) in
+      eq_case f.number 0
+      (λ none. rw (e, eq-eqb f.number 0 none) (passes_in s full alike none))
+      (λ some. rw (e, ne_eqb f.number 0 some) (record { refusal = sym (same_refusal alike); some = some }))

@@ -1,164 +1,136 @@
-// The checker: verdict, responses, schedule and as run, the four replies of the product, and ids, each over whatever a reader hands over
-// and over a text. Whatever the input, each has a reply, and its contract is the definition of the rules. The C boundary and the
-// programs use it.
+// The checker: verdict, responses, schedule and as run, the four replies of the product, and ids, each over whatever a table is read
+// from. Whatever the input, each has a reply, and its contract is the definition of the rules. The C boundary and the programs use it.
 #![tactic(auto)]
 
-ghost use Rattle.rules.specs.Sources.{text_source, source_of};
+ghost use Rattle.std.specs.Prelude.{◌≡◌, MatchResult};
+ghost use Rattle.rules.specs.Sources.{Source, text_source, source_of};
 ghost use Rattle.rules.specs.Verdicts.{VerdictIs, ResponsesAre};
 ghost use Rattle.rules.specs.Schedules.{ScheduleIs, AsRunIs};
 ghost use Rattle.rules.specs.Written.{IdsAre};
+ghost use Rattle.reordering.specs.Alike.{Alike};
+ghost use Rattle.checker.specs.Outcomes.{Passes, Fails};
 
-use rules::{RowsRead, ScheduleReply, Verdict, WriteReply};
+use machine::Why;
+use machine::paint::Kind;
+use rules::{Refusal, RowsRead, ScheduleReply, Table, Verdict};
 
 mod decide;
 mod labels;
 
-pub use decide::accepted;
-
 // Where no policy is asked: the checks are the same under each of the four.
 const ANY_POLICY: u32 = 1;
 
-// OF WHAT A READER HANDS OVER
+// What a table is read from.
+pub trait Readable {
+    // What it is, as the rules see it.
+    ghost source: { Self → Source };
+
+    // What the checker keeps of it, which is read as the same table.
+    fn read(self) -> Result<RowsRead, Refusal>
+        ensures { Alike (source_of result) (source self) };
+}
+
+// What a reader has handed over.
+impl Readable for Result<RowsRead, Refusal> {
+    ghost source = { source_of };
+
+    fn read(self) -> Result<RowsRead, Refusal> {
+        self
+    }
+}
+
+// A text.
+impl Readable for &[u8] {
+    ghost source = { λ text. text_source text.now };
+
+    #[tactic(auto, using(reordering::specs::Alike::read_alike))]
+    fn read(self) -> Result<RowsRead, Refusal> {
+        table_csv::read_rows(self)
+    }
+}
+
+// The table that is read, or the first check that fails: of the policy, of the lent buffer, which may be unfit, or of what is read. What
+// decides or runs matches it by reference: a table that a pattern or `?` binds by value is copied.
+#[tactic(auto, using(crate::proofs::InHand::check_in))]
+fn checked<S: Readable>(policy: u32, unfit: bool, source: S) -> Result<Table, Refusal>
+    ensures { MatchResult result (Passes policy unfit (S.source source)) (Fails policy unfit (S.source source)) }
+{
+    table::check(policy, unfit, source.read())
+}
 
 // Is the table on time under this policy? It spends an allowance of slots.
-pub fn verdict_of(policy: u32, allowance: u64, source: RowsRead) -> Verdict
-    ensures { VerdictIs policy allowance (source_of source) result }
+pub fn verdict<S: Readable>(policy: u32, allowance: u64, source: S) -> Verdict
+    ensures { VerdictIs policy allowance (S.source source) result }
 {
-    let g = table::check(policy, false, source);
-    let f = g.refusal;
-    if f.number != 0 {
-        return Verdict::Refused {
-            number: f.number,
-            place: f.place,
-        };
+    match &checked(policy, false, source) {
+        Ok(t) => decide::decide(t, policy, allowance).verdict,
+        Err(f) => (*f).into(),
     }
-    let t = g.table;
-    let o = decide::decide(t, policy, allowance);
-    o.verdict
 }
 
 // The verdict; if it is accepted, the lent numbers hold the worst responses in ascending id.
-pub fn responses_of(policy: u32, allowance: u64, source: RowsRead, numbers: &mut [u32]) -> Verdict
-    ensures { ResponsesAre policy allowance (source_of source) numbers.old numbers.new result }
+pub fn responses<S: Readable>(
+    policy: u32,
+    allowance: u64,
+    source: S,
+    numbers: &mut [u32],
+) -> Verdict
+    ensures { ResponsesAre policy allowance (S.source source) numbers.old numbers.new result }
 {
-    let g = table::check(policy, table::too_few(numbers.len()), source);
-    let f = g.refusal;
-    if f.number != 0 {
-        return Verdict::Refused {
-            number: f.number,
-            place: f.place,
-        };
+    match &checked(policy, table::too_few(numbers.len()), source) {
+        Ok(t) => {
+            let o = decide::decide(t, policy, allowance);
+            if let Verdict::Accepted(_) = o.verdict {
+                numbers[..t.count].copy_from_slice(&o.worst[..t.count]);
+            }
+            o.verdict
+        }
+        Err(f) => (*f).into(),
     }
-    let t = g.table;
-    let o = decide::decide(t, policy, allowance);
-    let v = o.verdict;
-    if decide::accepted(v) {
-        let w = o.worst;
-        decide::write_worst(t.count, w, numbers);
-        return v;
-    }
-    v
 }
 
 // Two bytes a slot, id and kind, of the run with these requests and loading lengths.
-pub fn as_run_of(
+#[tactic(auto, using(crate::proofs::Written::as_run_filled, crate::proofs::Written::as_run_missed))]
+pub fn as_run<S: Readable>(
     policy: u32,
-    source: RowsRead,
+    source: S,
     requests: &[u32],
     loadings: &[u32],
     slots: &mut [u8],
 ) -> ScheduleReply
-    ensures { AsRunIs policy (source_of source) requests.now loadings.now slots.old slots.new result }
+    ensures { AsRunIs policy (S.source source) requests.now loadings.now slots.old slots.new result }
 {
-    let g = table::check(policy, table::slots_wrong(slots.len()), source);
-    let f = g.refusal;
-    if f.number != 0 {
-        return ScheduleReply::Refused {
-            number: f.number,
-            place: f.place,
-        };
+    match &checked(policy, table::slots_wrong(slots.len()), source) {
+        Ok(t) => {
+            let n = slots.len() / 2;
+            let q = machine::run(t, policy, slots::NEVER, n as u64, requests, loadings, slots);
+            if let Why::Missed(row) = q.why {
+                machine::paint::fill(slots, q.time as usize, n, 0, Kind::Missed);
+                return ScheduleReply::Missed {
+                    time: q.time,
+                    id: t.rows[row].id,
+                };
+            }
+            ScheduleReply::Filled
+        }
+        Err(f) => (*f).into(),
     }
-    let t = g.table;
-    let n = slots.len() / 2;
-    let q = machine::run(t, policy, slots::NEVER, n as u64, requests, loadings, slots);
-    let m = q.miss;
-    if 0 < m {
-        let from = q.time as usize;
-        machine::paint::fill(slots, from, n, 0, 3);
-        return ScheduleReply::Missed {
-            time: q.time,
-            id: machine::id_of(t, m),
-        };
-    }
-    ScheduleReply::Filled
 }
 
 // Two bytes a slot, id and kind, of the schedule.
-pub fn schedule_of(policy: u32, source: RowsRead, slots: &mut [u8]) -> ScheduleReply
-    ensures { ScheduleIs policy (source_of source) slots.old slots.new result }
+#[tactic(auto, using(crate::proofs::Written::schedule_as_run))]
+pub fn schedule<S: Readable>(policy: u32, source: S, slots: &mut [u8]) -> ScheduleReply
+    ensures { ScheduleIs policy (S.source source) slots.old slots.new result }
 {
-    let requests = [0u32; 1];
-    let loadings = [0u32; 1];
-    as_run_of(policy, source, &requests[..0], &loadings[..0], slots)
+    as_run(policy, source, &[], &[], slots)
 }
 
 // Which ids the table has: as bytes in ascending order, as responses are.
-pub fn ids_of(source: RowsRead, ids: &mut [u8]) -> WriteReply
-    ensures { IdsAre (source_of source) ids.old ids.new result }
+#[tactic(auto, using(crate::proofs::Named::ids_written))]
+pub fn ids<S: Readable>(source: S, ids: &mut [u8]) -> Result<u64, Refusal>
+    ensures { IdsAre (S.source source) ids.old ids.new result }
 {
-    let g = table::check(ANY_POLICY, table::too_few(ids.len()), source);
-    let f = g.refusal;
-    if f.number != 0 {
-        return WriteReply::Refused {
-            number: f.number,
-            place: f.place,
-        };
-    }
-    let t = g.table;
-    labels::write_ids(t, ids);
-    WriteReply::Written(t.count as u64)
-}
-
-// OF A TEXT
-
-pub fn verdict(policy: u32, allowance: u64, text: &[u8]) -> Verdict
-    ensures { VerdictIs policy allowance (text_source text.now) result }
-{
-    verdict_of(policy, allowance, table_csv::read_rows(text))
-}
-
-pub fn responses(policy: u32, allowance: u64, text: &[u8], numbers: &mut [u32]) -> Verdict
-    ensures { ResponsesAre policy allowance (text_source text.now) numbers.old numbers.new result }
-{
-    responses_of(policy, allowance, table_csv::read_rows(text), numbers)
-}
-
-pub fn as_run(
-    policy: u32,
-    text: &[u8],
-    requests: &[u32],
-    loadings: &[u32],
-    slots: &mut [u8],
-) -> ScheduleReply
-    ensures { AsRunIs policy (text_source text.now) requests.now loadings.now slots.old slots.new result }
-{
-    as_run_of(
-        policy,
-        table_csv::read_rows(text),
-        requests,
-        loadings,
-        slots,
-    )
-}
-
-pub fn schedule(policy: u32, text: &[u8], slots: &mut [u8]) -> ScheduleReply
-    ensures { ScheduleIs policy (text_source text.now) slots.old slots.new result }
-{
-    schedule_of(policy, table_csv::read_rows(text), slots)
-}
-
-pub fn ids(text: &[u8], ids: &mut [u8]) -> WriteReply
-    ensures { IdsAre (text_source text.now) ids.old ids.new result }
-{
-    ids_of(table_csv::read_rows(text), ids)
+    let t = checked(ANY_POLICY, table::too_few(ids.len()), source)?;
+    labels::write_ids(&t.rows[..t.count], ids);
+    Ok(t.count as u64)
 }

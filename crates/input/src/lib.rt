@@ -17,6 +17,7 @@ pub fn read_full<R: Read + Drop>(mut reader: R, bytes: &mut [u8]) -> io::Result<
         (λ xs. take n bytes.new ≡ take (length bytes.new) xs)) }
 {
     let mut at: usize = 0;
+    // How far a turn goes, the reader says.
     while at < bytes.len() {
         let n = reader.read(&mut bytes[at..])?;
         if n == 0 {

@@ -67,53 +67,21 @@ response_is u v newest period release a b c d e = let m : min (release - v) 4294
 -- THE STATES
 
 abbrev pub idle_state : State → State
-idle_state s = record {
-  release = s.release;
-  due = s.due;
-  key = s.key;
-  need = s.need;
-  executed = s.executed;
-  worst = s.worst;
-  next = s.next;
-  soonest = s.soonest;
-  best = s.best;
-  last = 0;
-  left = record { 0 = 0 };
-  asked = s.asked;
-  begun = s.begun;
-}
+idle_state s = record s { last = 0; left = record { 0 = 0 } }
 
 abbrev pub goes_state : State → ℕ → Executed → Loading → ℕ → State
-goes_state s i x y b = record {
-  release = s.release;
-  due = s.due;
-  key = s.key;
-  need = s.need;
-  executed = set s.executed i x;
-  worst = s.worst;
-  next = s.next;
-  soonest = s.soonest;
-  best = s.best;
-  last = i + 1;
-  left = y;
-  asked = s.asked;
-  begun = b;
-}
+goes_state s i x y b = record s { executed = set s.executed i x; last = i + 1; left = y; begun = b }
 
 abbrev pub ends_state : State → ℕ → ℕ → ℕ → ℕ → ℕ → State
-ends_state s i worst soonest best b = record {
-  release = s.release;
+ends_state s i worst soonest best b = record s {
   due = set s.due i never;
   key = set s.key i never;
-  need = s.need;
   executed = set s.executed i (get_or s.need i nothing);
   worst = set s.worst i worst;
-  next = s.next;
   soonest = soonest;
   best = best;
   last = 0;
   left = record { 0 = 0 };
-  asked = s.asked;
   begun = b;
 }
 

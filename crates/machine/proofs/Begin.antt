@@ -1,5 +1,5 @@
--- The state at time 0. The loop of `begin` fills in one row after the other: the first release at the offset, with its row, and a job
--- that is complete, so no deadline and no key. Once all rows are filled in, the state stands for the rules' begin.
+-- The state at time 0. The loop of `begin` fills in one row after the other (`begun_turn`). Once all rows are filled in, the state stands
+-- for the rules' begin (`begun_at`).
 use mathlib.Core.Path.{◌≡◌, refl, sym, ap, ◌∙◌, subst}
 use mathlib.Core.Logic.{inl, ◌≢◌}
 use mathlib.Core.List.{List}
@@ -14,6 +14,8 @@ use Rattle.rules.specs.declared.Executed.{Executed}
 use Rattle.rules.specs.declared.Table.{Table}
 use Rattle.rules.specs.Table.{no_row}
 use Rattle.rules.specs.Policies as policies
+use Rattle.rules.specs.Policies.{blank}
+use Rattle.basics.specs.Lists.{any_default}
 use Rattle.rules.specs.Slots as rules
 use Rattle.rules.specs.AsRun.{as_run}
 use Rattle.basics.specs.Cases.{clash}
@@ -22,10 +24,10 @@ use Rattle.theory.proofs.Completions.{seen_start}
 use Rattle.slots.specs.Jobs.{never}
 use Rattle.machine.specs.declared.state.State.{State}
 use Rattle.machine.specs.Least.{Least}
+use Rattle.machine.specs.Begun.{over, Filled, Begun}
 use Rattle.machine.specs.Turns.{tagged_of}
-use Rattle.machine.specs.Machine.{live, Sound, system_in, state_at, nothing, release_in, due_in, key_in, TaskAt, At}
+use Rattle.machine.specs.Machine.{live, Sound, system_in, state_at, nothing, due_in, key_in, TaskAt, At}
 use Rattle.machine.proofs.Minima.{least_put}
-use Rattle.machine.proofs.SoundTables.{row_in}
 
 -- NOTHING IS FILLED IN
 
@@ -37,74 +39,12 @@ same_all (suc n) (suc i) a = same_all n i a
 least_never : (n : ℕ) → Least n (replicate 16 never) never
 least_never n = record { low = λ i h. omega (arith, same_all 16 i never); top = omega arith; hit = inl refl }
 
--- what the loop begins with
-abbrev pub empty : State
-empty = record {
-  release = replicate 16 never;
-  due = replicate 16 never;
-  key = replicate 16 never;
-  need = replicate 16 nothing;
-  executed = replicate 16 nothing;
-  worst = replicate 16 0;
-  next = never;
-  soonest = never;
-  best = never;
-  last = 0;
-  left = record { 0 = 0 };
-  asked = 0;
-  begun = 0;
-}
-
 -- THE ROWS BELOW i ARE FILLED IN
 
--- a state with other releases, needs and executions
-abbrev pub over : State → List ℕ → List Executed → List Executed → ℕ → State
-over s release need executed next = record {
-  release = release;
-  due = s.due;
-  key = s.key;
-  need = need;
-  executed = executed;
-  worst = s.worst;
-  next = next;
-  soonest = s.soonest;
-  best = s.best;
-  last = s.last;
-  left = s.left;
-  asked = s.asked;
-  begun = s.begun;
-}
-
--- row w is in place k
-pub record Filled (w : Row) (k : ℕ) (times : List ℕ) (whole had : List Executed) : Type 0 where
-  pub release : get_or times k never ≡ tagged_of w.offset k
-  pub need : (get_or whole k nothing).0 ≡ w.wcet
-  pub executed : (get_or had k nothing).0 ≡ w.wcet
-
-pub record Begun (t : Table) (i : ℕ) (s : State) : Type 0 where
-  pub others : s ≡ over empty s.release s.need s.executed s.next
-  pub release : length s.release ≡ 16
-  pub need : length s.need ≡ 16
-  pub executed : length s.executed ≡ 16
-  pub tasks : (k : ℕ) → k < i → Filled (get_or t.rows k no_row) k s.release s.need s.executed
-  pub rest : (k : ℕ) → i ≤ k → release_in s k ≡ never
-  pub next : Least t.count s.release s.next
-
-pub begun_start : (t : Table) → Begun t 0 empty
-begun_start t = record {
-  others = refl;
-  release = refl;
-  need = refl;
-  executed = refl;
-  tasks = λ k h. absurd (omega arith);
-  rest = λ k h. same_all 16 k never;
-  next = least_never t.count;
-}
-
 -- row i too
-module _ (t : Table) (i : ℕ) (below : i < t.count) (few : t.count ≤ 16) (s : State) (b : Begun t i s) where
+module _ (rows : List Row) (i : ℕ) (below : i < length rows) (few : length rows ≤ 16) (s : State) (b : Begun rows i s) where
   abbrev w : Row
-  w = get_or t.rows i no_row
+  w = get_or rows i no_row
 
   abbrev done : Executed
   done = record { 0 = w.wcet }
@@ -118,7 +58,7 @@ module _ (t : Table) (i : ℕ) (below : i < t.count) (few : t.count ≤ 16) (s :
       executed = ap (λ (e : Executed). e.0) (get_or-set_same s.executed i done nothing (omega (arith, b.executed)));
     }
 
-    filled_still : (k : ℕ) → k < i → Filled (get_or t.rows k no_row) k (set s.release i o) (set s.need i done) (set s.executed i done)
+    filled_still : (k : ℕ) → k < i → Filled (get_or rows k no_row) k (set s.release i o) (set s.need i done) (set s.executed i done)
     filled_still k h =
         let apart : k ≢ i = λ e. omega arith in
         record {
@@ -127,17 +67,17 @@ module _ (t : Table) (i : ℕ) (below : i < t.count) (few : t.count ≤ 16) (s :
           executed = ap (λ (e : Executed). e.0) (get_or-set_other s.executed i k done nothing apart) ∙ (b.tasks k h).executed;
         }
 
-    pub begun_turn : (next : ℕ) → next ≡ min s.next o → Begun t (i + 1) (over s (set s.release i o) (set s.need i done) (set s.executed i done) next)
+    pub begun_turn : (next : ℕ) → next ≡ min s.next o → Begun rows (i + 1) (over s (set s.release i o) (set s.need i done) (set s.executed i done) next)
     begun_turn next e = record {
       others = ap (λ (x : State). over x (set s.release i o) (set s.need i done) (set s.executed i done) next) b.others;
       release = length-set s.release i o ∙ b.release;
       need = length-set s.need i done ∙ b.need;
       executed = length-set s.executed i done ∙ b.executed;
       tasks =
-          below_more (λ k. Filled (get_or t.rows k no_row) k (set s.release i o) (set s.need i done) (set s.executed i done)) i
+          below_more (λ k. Filled (get_or rows k no_row) k (set s.release i o) (set s.need i done) (set s.executed i done)) i
           filled_still filled_here;
       rest = λ k h. get_or-set_other s.release i k o never (λ q. omega arith) ∙ b.rest k (omega arith);
-      next = rw e (least_put t.count s.release s.next i (omega (arith, b.release)) b.next o below (b.rest i (omega arith)));
+      next = rw e (least_put (length rows) s.release s.next i (omega (arith, b.release)) b.next o below (b.rest i (omega arith)));
     }
 
 -- ALL ARE FILLED IN
@@ -154,16 +94,16 @@ first_task p w x i s a b f due key = record {
   complete = λ e. (due, key);
 }
 
-pub begun_at : (t : Table) → Sound t → (s : State) → Begun t t.count s → (p : ℕ) (xs zs : List ℕ) → At p t xs zs 0 s
+pub begun_at : (t : Table) → Sound t → (s : State) → Begun (live t) (length (live t)) s → (p : ℕ) (xs zs : List ℕ) → At p t xs zs 0 s
 unfolding rules.run as_run
 begun_at t sound s b p xs zs = rw b.others (record {
   full = record { release = b.release; due = refl; key = refl; need = b.need; executed = b.executed; worst = refl };
   tasks = λ i h.
       first_task p (policies.row (live t) i) (state_at p t xs zs 0) i _ refl refl
-      (subst (λ (w : Row). Filled w i s.release s.need s.executed) (sym (row_in t sound i h)) (b.tasks i h))
+      (subst (λ (w : Row). Filled w i s.release s.need s.executed) (any_default (live t) i no_row blank (inside i h)) (b.tasks i (inside i h)))
       (same_all 16 i never) (same_all 16 i never);
-  rest = λ i h. record { release = b.rest i h; due = same_all 16 i never; key = same_all 16 i never };
-  next = b.next;
+  rest = λ i h. record { release = b.rest i (omega (arith, sound.count)); due = same_all 16 i never; key = same_all 16 i never };
+  next = rw sound.count at b.next;
   soonest = least_never t.count;
   best = least_never t.count;
   ahead = omega arith;
@@ -174,3 +114,6 @@ begun_at t sound s b p xs zs = rw b.others (record {
   clean = λ v h. absurd (omega arith);
   seen = λ e i h. rw (same_all 16 i 0) (seen_start (system_in p t) i);
 })
+  where
+    inside : (i : ℕ) → i < t.count → i < length (live t)
+    inside i h = omega (arith, sound.count)

@@ -4,12 +4,13 @@ use mathlib.Core.Path.{◌≡◌, refl, sym, ap, ◌∙◌}
 use mathlib.Core.Logic.{◌⊎◌, ◌≢◌}
 use mathlib.Core.Bool.{Bool, true, false, cond}
 use mathlib.Core.List.{List}
+use Rattle.std.proofs.Common.{Option, None, Some, IsSome}
 use Prim.Native.Nat.{ℕ, suc, ◌+◌, ◌-◌, ◌*◌, ◌/◌, ◌%◌, ◌≤◌, ◌<◌, min, max}
 use native.Mathlib.Omega.{arith}
 use native.Mathlib.Numerals.{add-one}
 use borrow.Author.Tests.{eq-eqb, ne_eqb, lt-ltb, leb-false}
 use lib.Dec.{eqb}
-use lib.ListN.{get_or, length, set}
+use lib.ListN.{get_or, length, set, take, length-set}
 use Rattle.rules.specs.declared.Row.{Row}
 use Rattle.rules.specs.declared.Executed.{Executed}
 use Rattle.rules.specs.declared.Loading.{Loading}
@@ -21,14 +22,14 @@ use Rattle.basics.specs.Cases.{clash, eq_case, le_case}
 use Rattle.basics.specs.Lists.{any_default}
 use Rattle.theory.specs.Counters.{until, counts}
 use Rattle.slots.specs.Jobs.{never, continues_of, worked_of}
+use Rattle.machine.specs.declared.Why.TheVariants.{Missed, Repeats, Ended}
 use Rattle.machine.specs.declared.state.State.{State}
-use Rattle.machine.specs.declared.marks.Mark.{Mark}
 use Rattle.machine.specs.declared.join.Joined.{Joined}
 use Rattle.machine.specs.declared.turn.ToLoad.{ToLoad}
-use Rattle.machine.specs.Least.{Least}
+use Rattle.machine.specs.Least.{Places, LeastOf}
 use Rattle.machine.specs.Turns.{joined_of, load_of}
 use Rattle.machine.specs.Paint.{Painted, stretch_id, stretch_kind}
-use Rattle.machine.specs.Machine.{live, Sound, miss_at, nothing, release_in, need_in, executed_in, worst_in, At, first_due, Alike, Ran, PaintedRun}
+use Rattle.machine.specs.Machine.{live, Sound, miss_at, nothing, release_in, need_in, executed_in, worst_in, At, FirstAt, Again, Ran, PaintedRun}
 use Rattle.machine.proofs.SoundTables.{row_in, fine_in, period_some, count_top, hyper_some}
 use Rattle.machine.proofs.Minima.{stays_empty, least_part, least_drop}
 use Rattle.machine.proofs.Painted.{painted_none}
@@ -38,7 +39,7 @@ use Rattle.machine.proofs.Who.{begun_before, who_first}
 use Rattle.machine.proofs.Loads.{loads_in, loadings_in}
 use Rattle.machine.proofs.Leap.{Near, release_on}
 use Rattle.machine.proofs.Arms.{idle_state, goes_state, ends_state, nobody, no_load, idle_busy, idle_at, task_busy, goes_at, ends_at}
-use Rattle.machine.proofs.Misses.{missed_is, missed_top, missed_some, ahead_of, none_missed}
+use Rattle.machine.proofs.Misses.{missed_below, missed_is, some_due, ahead_of, none_missed}
 use Rattle.machine.proofs.Bytes.{painted_on}
 use Rattle.machine.proofs.Watch.{keep, watched_start, mark_later, mark_now, watched_on, none_equal, repeats_now, watched_next}
 use Rattle.machine.proofs.Places.{Head, head_of, at_time, past_mark, first_of, row_of, Going, Turning, Joins, Until, Serving, Onward, OneMore}
@@ -88,16 +89,16 @@ measure_marks end u mark h e some = rw (eq-eqb mark u e, ne_eqb (u + h) u (λ z.
 
 -- THE FIRST HEAD
 
-pub going_start : {p : ℕ} {t : Table} {xs zs : List ℕ} {first end : ℕ} (before : List ℕ) {s : State} {was : Mark}
-    → Sound t → (first ≡ never) ⊎ (first ≡ t.omax) → end ≤ 281474976710656 → At p t xs zs 0 s → was.last ≡ 17
-    → Going (head_of p t xs zs first end before before s was first 0)
-going_start before sound kind high a e = record {
+pub going_start : {p : ℕ} {t : Table} {xs zs : List ℕ} {first end : ℕ} (before : List ℕ) {s : State}
+    → Sound t → (first ≡ never) ⊎ (first ≡ t.omax) → end ≤ 281474976710656 → At p t xs zs 0 s
+    → Going (head_of p t xs zs first end before before s None first 0)
+going_start before sound kind high a = record {
   sound = sound;
   kind = kind;
   high = high;
   most = omega arith;
   at = a;
-  watched = watched_start e;
+  watched = watched_start;
   painted = painted_none _ _ before (omega arith);
 }
 
@@ -112,19 +113,23 @@ module _ {h : Head} where
     below_never = omega (arith, low)
 
     -- A MISS
-    pub ran_missed : s.soonest ≡ u → {m : ℕ} → m ≡ first_due t.count s.due u
-        → Ran p t xs zs first end (record { worst = s.worst; time = u; miss = m; repeats = false })
-    ran_missed e is = rw is (record {
+    pub row_due : s.soonest ≡ u → (o : Option ℕ) → FirstAt (take t.count s.due) u o → IsSome o
+    row_due e (Some i) f = refl
+    row_due e None f = absurd (some_due g.sound below_never g.at e f)
+
+    pub ran_missed : {row : ℕ} → FirstAt (take t.count s.due) u (Some row)
+        → Ran p t xs zs first end (record { worst = s.worst; time = u; why = Missed row })
+    ran_missed f = record {
       most = g.most;
-      task = missed_top g.sound below_never g.at;
+      task = missed_below g.sound below_never g.at f;
       clean = g.at.clean;
-      miss = missed_is g.sound below_never g.at;
-      seen = λ z. g.at.seen;
+      miss = sym (missed_is g.sound below_never g.at f);
+      seen = λ z. absurd (omega (arith, z));
       repeats = λ z. clash z refl;
       alone = λ z. refl;
-      through = λ z none. absurd (missed_some g.sound below_never g.at e none);
-      apart = λ z none. absurd (missed_some g.sound below_never g.at e none);
-    })
+      through = λ z none. absurd (omega (arith, none));
+      apart = λ z none. absurd (omega (arith, none));
+    }
 
     module _ (on_time : s.soonest ≢ u) where
       clear : miss_at p t xs zs u ≡ 0
@@ -135,7 +140,7 @@ module _ {h : Head} where
         marked : first ≡ t.omax
         marked = mark_now g.watched below_never g.kind now
 
-        pub ran_repeats : Alike t.count (keep s) was → Ran p t xs zs first end (record { worst = s.worst; time = u; miss = 0; repeats = true })
+        pub ran_repeats : Again t.count (keep s) was → Ran p t xs zs first end (record { worst = s.worst; time = u; why = Repeats })
         ran_repeats like = record {
           most = g.most;
           task = omega arith;
@@ -148,7 +153,7 @@ module _ {h : Head} where
           apart = λ z. clash refl z;
         }
 
-        pub onward_marked : (Alike t.count (keep s) was → ⊥) → Onward h (past_mark h)
+        pub onward_marked : (Again t.count (keep s) was → ⊥) → Onward h (past_mark h)
         onward_marked differ = record {
           less = measure_marks end u mark t.hyper now (hyper_some t g.sound);
           going = record {
@@ -163,7 +168,7 @@ module _ {h : Head} where
         }
 
       -- THE END
-      pub ran_through : mark ≢ u → u ≡ end → Ran p t xs zs first end (record { worst = s.worst; time = u; miss = 0; repeats = false })
+      pub ran_through : mark ≢ u → u ≡ end → Ran p t xs zs first end (record { worst = s.worst; time = u; why = Ended })
       ran_through later e = record {
         most = g.most;
         task = omega arith;
@@ -188,14 +193,14 @@ module _ {h : Head} where
       -- one more
       pub one_more : s₁.next / 16 ≡ u → {ask : ℕ} → ask ≡ get_or xs s₁.asked (get_or t.rows (s₁.next % 16) no_row).wcet
           → {j : Joined} → j ≡ joined_of p (get_or t.rows (s₁.next % 16) no_row) (s₁.next % 16) u ask
-          → (blocks : ℕ) → t.count ≤ 4 * blocks → {next : ℕ} → Least (4 * blocks) (set s₁.release (s₁.next % 16) j.release) next
+          → (places : ℕ) → Places t.count places → {next : ℕ} → LeastOf (take places (set s₁.release (s₁.next % 16) j.release)) next
           → OneMore h s₁ (with_joined s₁ (s₁.next % 16) j (length xs) next)
-      one_more now ask-is {j} j-is blocks enough least =
+      one_more now ask-is {j} j-is places enough least =
           let new : j ≡ joined_of p (row (live t) (s₁.next % 16)) (s₁.next % 16) u (get_or xs s₁.asked (row (live t) (s₁.next % 16)).wcet) =
           rw (ask-is, ← row_in t g.sound (s₁.next % 16) (row_below g.sound (low g) g.at so_far now)) at j-is in
           record {
-            less = joining_less g.sound (low g) g.at so_far now new blocks enough least;
-            joins = joining_turn g.sound (low g) g.at so_far now new blocks enough least;
+            less = joining_less g.sound (low g) g.at so_far now new places enough least;
+            joins = joining_turn g.sound (low g) g.at so_far now new places enough least;
           }
 
       -- no more
@@ -377,19 +382,19 @@ module _ {h : Head} where
 
       pub onward_ends : {rest took worst : ℕ} → rest ≡ min (get_or s₁.release i 0 / 16 - full) 4294967295
           → took ≡ (row_of t s₁).period - rest → worst ≡ max (worst_in s₁ i) took
-          → (blocks : ℕ) → t.count ≤ 4 * blocks
-          → {soonest : ℕ} → (get_or s₁.due i 0 ≡ s₁.soonest → Least (4 * blocks) (set s₁.due i never) soonest)
+          → (places : ℕ) → Places t.count places
+          → {soonest : ℕ} → (get_or s₁.due i 0 ≡ s₁.soonest → LeastOf (take places (set s₁.due i never)) soonest)
           × (get_or s₁.due i 0 ≢ s₁.soonest → soonest ≡ s₁.soonest)
-          → {best : ℕ} → Least (4 * blocks) (set s₁.key i never) best
+          → {best : ℕ} → LeastOf (take places (set s₁.key i never)) best
           → Onward h (at_time h slots' (ends_state s₁ i worst soonest best l.begun) full)
-      onward_ends {worst = worst} rest_is took-is worst_is blocks enough {soonest} soon {best} next-best =
+      onward_ends {worst = worst} rest_is took-is worst_is places enough {soonest} soon {best} next-best =
           let response : worst ≡ max (worst_in s₁ i) ((row (live t) i).period - min (release_in s₁ i / 16 - full) 4294967295) =
           rw (took-is, rest_is, c.release_is, c.row_is) at worst_is in
           let soonest-is = eq_case (get_or s₁.due i never) s₁.soonest
-          (λ e. least_part t.count (4 * blocks) (set s₁.due i never) soonest enough
+          (λ e. least_part t.count places (set s₁.due i never) soonest enough (length-set s₁.due i never ∙ r.passed.full.due)
           (λ k h. stays_empty s₁.due i k in_due (r.rest k h).due) (soon.0 (read_due ∙ e)))
           (λ e. rw (soon.1 (λ z. e (sym read_due ∙ z))) (least_drop t.count s₁.due s₁.soonest i in_due r.passed.soonest e)) in
-          let best-is = least_part t.count (4 * blocks) (set s₁.key i never) best enough
+          let best-is = least_part t.count places (set s₁.key i never) best enough (length-set s₁.key i never ∙ r.passed.full.key)
           (λ k h. stays_empty s₁.key i k in_key (r.rest k h).key) next-best in
           onward c.until near_full fits
           (ends_at r near_full c.below c.has c.waits l.begun c.loadings_left room_full full_is response soonest-is best-is)

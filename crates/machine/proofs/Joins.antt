@@ -3,10 +3,10 @@
 use mathlib.Core.Path.{◌≡◌, sym, ap, ◌∙◌}
 use mathlib.Core.Logic.{◌⊎◌, inl, inr, ◌≢◌}
 use mathlib.Core.List.{List}
-use Prim.Native.Nat.{ℕ, zero, suc, ◌+◌, ◌-◌, ◌*◌, ◌/◌, ◌%◌, ◌≤◌, ◌<◌}
+use Prim.Native.Nat.{ℕ, zero, suc, ◌+◌, ◌-◌, ◌/◌, ◌%◌, ◌≤◌, ◌<◌}
 use native.Mathlib.Omega.{arith}
 use native.Mathlib.Nat.{add-zero}
-use lib.ListN.{get_or, length, set}
+use lib.ListN.{get_or, length, set, take, length-set}
 use lib.Seq.{get_or-set_same, get_or-set_other}
 use Rattle.rules.specs.declared.Table.{Table}
 use Rattle.rules.specs.Policies.{row}
@@ -14,7 +14,7 @@ use Rattle.basics.specs.Cases.{le_case, eq_case}
 use Rattle.slots.specs.Jobs.{never}
 use Rattle.machine.specs.declared.state.State.{State}
 use Rattle.machine.specs.declared.join.Joined.{Joined}
-use Rattle.machine.specs.Least.{Least}
+use Rattle.machine.specs.Least.{Least, Places, LeastOf}
 use Rattle.machine.specs.Turns.{tagged_of, joined_of}
 use Rattle.machine.specs.Machine.{live, Sound, miss_at, release_in, Unused, At}
 use Rattle.machine.proofs.SoundTables.{period_some, count_top}
@@ -107,7 +107,7 @@ module _ {p : ℕ} {t : Table} (sound : Sound t) {xs zs : List ℕ} {u : ℕ} (l
           rw e at (all_by (row_now - g.i) (omega (arith, found.0, found.1)) (λ k l m. before_row k l (omega (arith, m, found.1))))
 
       module _ {j : Joined} (is : j ≡ joined_of p (row (live t) row_now) row_now u (get_or xs s.asked (row (live t) row_now).wcet))
-          (blocks : ℕ) (enough : t.count ≤ 4 * blocks) {n : ℕ} (least : Least (4 * blocks) (set s.release row_now j.release) n) where
+          (places : ℕ) (enough : Places t.count places) {n : ℕ} (least : LeastOf (take places (set s.release row_now j.release)) n) where
         in_array : row_now < length s.release
         in_array = omega (arith, g.passing.full.release, row_top row_now found.0)
 
@@ -118,7 +118,8 @@ module _ {p : ℕ} {t : Table} (sound : Sound t) {xs zs : List ℕ} {u : ℕ} (l
         rest_after k h = get_or-set_other s.release row_now k j.release never (λ e. omega (arith, e, h, found.0)) ∙ (g.rest k h).release
 
         next_after : Least t.count (set s.release row_now j.release) n
-        next_after = least_part t.count (4 * blocks) (set s.release row_now j.release) n enough rest_after least
+        next_after = least_part t.count places (set s.release row_now j.release) n enough
+            (length-set s.release row_now j.release ∙ g.passing.full.release) rest_after least
 
         pub joining_turn : Joining p t xs zs u s₀ (with_joined s row_now j (length xs) n)
         joining_turn = record {

@@ -1,6 +1,7 @@
 pub mod Arms
 pub mod Begin
 pub mod Bytes
+pub mod Compared
 pub mod Going
 pub mod Joins
 pub mod Leap

@@ -2,16 +2,13 @@
 use mathlib.Core.Path.{◌≡◌, refl, sym, ◌∙◌}
 use mathlib.Core.Logic.{◌⊎◌, inl, inr, ◌≢◌}
 use mathlib.Core.List.{List}
-use Prim.Native.Nat.{ℕ, suc, ◌≤◌, ◌<◌, min}
+use Prim.Native.Nat.{ℕ, suc, ◌*◌, ◌/◌, ◌≤◌, ◌<◌, min}
 use native.Mathlib.Omega.{arith}
-use lib.ListN.{get_or, length, set}
-use lib.Seq.{get_or-set_same, get_or-set_other}
+use lib.ListN.{get_or, length, set, take}
+use lib.Seq.{get_or-set_same, get_or-set_other, get_or-take, length-take-le}
 use Rattle.basics.specs.Cases.{le_case, eq_case, upto}
 use Rattle.slots.specs.Jobs.{never}
-use Rattle.machine.specs.Least.{Least}
-
-pub least_none : (l : List ℕ) → Least 0 l never
-least_none l = record { low = λ i h. absurd (omega arith); top = omega arith; hit = inl refl }
+use Rattle.machine.specs.Least.{Least, Places, LeastOf}
 
 -- one place more
 pub least_more : (n : ℕ) (l : List ℕ) (m : ℕ) → Least n l m → Least (suc n) l (min m (get_or l n never))
@@ -29,13 +26,24 @@ least_more n l m h = le_case m (get_or l n never)
     wider (inl e) = inl e
     wider (inr k) = inr (k.0, omega (arith, k.1), k.2)
 
--- the places from n on are empty
-pub least_part : (n k : ℕ) (l : List ℕ) (m : ℕ) → n ≤ k → ((i : ℕ) → n ≤ i → get_or l i never ≡ never) → Least k l m → Least n l m
-least_part n k l m e rest h = record { low = λ i b. h.low i (omega arith); top = h.top; hit = go h.hit }
+-- the blocks of four that hold n rows; the places from n on are empty
+pub least_part : (n k : ℕ) (l : List ℕ) (m : ℕ) → Places n k → length l ≡ 16 → ((i : ℕ) → n ≤ i → get_or l i never ≡ never)
+    → LeastOf (take k l) m → Least n l m
+least_part n k l m e full rest h = record {
+  low = λ i b. rw (get_or-take k l i never (omega (arith, e))) at (h.low i (omega (arith, whole, e)));
+  top = h.top;
+  hit = go h.hit;
+}
   where
-    go : (m ≡ never) ⊎ ((i : ℕ) × (i < k) × (get_or l i never ≡ m)) → (m ≡ never) ⊎ ((i : ℕ) × (i < n) × (get_or l i never ≡ m))
+    whole : length (take k l) / 4 * 4 ≡ k
+    whole = rw (length-take-le k l (omega (arith, e, full))) (sym e.2)
+
+    go : (m ≡ never) ⊎ ((i : ℕ) × (i < length (take k l) / 4 * 4) × (get_or (take k l) i never ≡ m))
+        → (m ≡ never) ⊎ ((i : ℕ) × (i < n) × (get_or l i never ≡ m))
     go (inl q) = inl q
-    go (inr x) = le_case n x.0 (λ g. inl (sym x.2 ∙ rest x.0 g)) (λ g. inr (x.0, g, x.2))
+    go (inr x) =
+        let r : get_or l x.0 never ≡ m = sym (get_or-take k l x.0 never (omega (arith, x.1, whole))) ∙ x.2 in
+        le_case n x.0 (λ g. inl (sym r ∙ rest x.0 g)) (λ g. inr (x.0, g, r))
 
 -- an empty place stays so where one is emptied
 pub stays_empty : (l : List ℕ) (i k : ℕ) → i < length l → get_or l k never ≡ never → get_or (set l i never) k never ≡ never

@@ -1,28 +1,16 @@
--- Laws of a painted buffer: nothing painted, one slot, one range after another, the same bytes said in another way. The functions
+-- Laws of a painted buffer: nothing painted, one range after another, the same bytes said in another way. The functions
 -- that paint use them, and the loop that calls these.
 use mathlib.Core.Path.{◌≡◌, refl, ◌∙◌}
-use mathlib.Core.Logic.{inl, inr, ⊎_elim, ◌≢◌}
+use mathlib.Core.Logic.{inl, inr, ⊎_elim}
 use mathlib.Core.List.{List}
-use Prim.Native.Nat.{ℕ, ◌+◌, ◌-◌, ◌*◌, ◌%◌, ◌≤◌, ◌<◌, min}
+use Prim.Native.Nat.{ℕ, ◌+◌, ◌*◌, ◌≤◌, ◌<◌}
 use native.Mathlib.Omega.{arith}
-use lib.ListN.{length, set, length-set}
-use lib.Seq.{get_or-set_same, get_or-set_other}
-use borrow.Author.Tests.{eq-eqb, ne_eqb, lt-ltb, le-ltb}
 use Rattle.basics.specs.Cases.{le_case}
-use Rattle.machine.specs.Paint.{Painted, stretch_id, stretch_kind}
+use Rattle.machine.specs.Paint.{Painted}
 
 -- no slot is asked for
 pub painted_none : (f g : ℕ → ℕ) {a b : ℕ} (x : List ℕ) → b ≤ a → Painted f g a b x x
 painted_none f g x h = record {
-  size = refl;
-  id = λ u low high room. absurd (omega arith);
-  kind = λ u low high room. absurd (omega arith);
-  stays = λ i out. refl;
-}
-
--- there is room for none
-pub painted_past : (f g : ℕ → ℕ) {a b : ℕ} (x : List ℕ) → length x ≤ a * 2 + 1 → Painted f g a b x x
-painted_past f g x h = record {
   size = refl;
   id = λ u low high room. absurd (omega arith);
   kind = λ u low high room. absurd (omega arith);
@@ -55,52 +43,3 @@ module _ {f g : ℕ → ℕ} where
     kind = λ u from to room. p.kind u from to room ∙ same_kind u from to;
     stays = p.stays;
   }
-
--- ONE SLOT
-
-module _ (f g : ℕ → ℕ) (u : ℕ) (x : List ℕ) (fits : u * 2 + 1 < length x) where
-  painted_slot : Painted f g u (u + 1) x (set (set x (u * 2) (f u)) (u * 2 + 1) (g u))
-  painted_slot = record {
-    size = simp length-set;
-    id = λ v from to room. let e : v ≡ u = omega arith in rw e (
-        get_or-set_other (set x (u * 2) (f u)) (u * 2 + 1) (u * 2) (g u) 0 (λ q. omega arith)
-        ∙ get_or-set_same x (u * 2) (f u) 0 (omega arith));
-    kind = λ v from to room. let e : v ≡ u = omega arith in rw e (
-        get_or-set_same (set x (u * 2) (f u)) (u * 2 + 1) (g u) 0 (rw length-set fits));
-    stays = λ i out.
-        get_or-set_other (set x (u * 2) (f u)) (u * 2 + 1) i (g u) 0 (λ q. ⊎_elim (λ h. omega arith) (λ h. omega arith) out)
-        ∙ get_or-set_other x (u * 2) i (f u) 0 (λ q. ⊎_elim (λ h. omega arith) (λ h. omega arith) out);
-  }
-
-module _ {f g : ℕ → ℕ} {a u : ℕ} {x y : List ℕ} (p : Painted f g a u x y) where
-  -- one slot more
-  pub painted_more : a ≤ u → u * 2 + 1 < length x → Painted f g a (u + 1) x (set (set y (u * 2) (f u)) (u * 2 + 1) (g u))
-  painted_more low fits = painted_join low (omega arith) p (painted_slot f g u y (omega (arith, p.size)))
-
-  -- all that was asked for; or all that there is room for
-  pub painted_end : {b : ℕ} → b ≤ u → u ≤ a + (b - a) → Painted f g a b x y
-  painted_end {b} low high = record {
-    size = p.size;
-    id = λ v from to room. p.id v from (omega arith) room;
-    kind = λ v from to room. p.kind v from (omega arith) room;
-    stays = λ i out. le_case (a * 2) i
-        (λ h. p.stays i (inr (⊎_elim (λ k. omega arith) (λ k. omega arith) out)))
-        (λ h. p.stays i (inl h));
-  }
-
-  pub painted_full : {b : ℕ} → a ≤ u → u ≤ b → length x ≤ u * 2 + 1 → Painted f g a b x y
-  painted_full low high full = painted_join low high p (painted_past f g y (omega (arith, p.size)))
-
--- A STRETCH: idle; or loading, and then executing
-
-module _ (from count at id load : ℕ) where
-  pub painted_idle : {x y : List ℕ} → at ≡ 0 → Painted (λ u. 0) (λ u. 0) from (from + count) x y
-      → Painted (stretch_id at id) (stretch_kind from at load) from (from + count) x y
-  painted_idle e = painted_as (λ u low high. rw (eq-eqb at 0 e)) (λ u low high. rw (eq-eqb at 0 e))
-
-  pub painted_busy : {x y z : List ℕ} → at ≢ 0 → Painted (λ u. id % 256) (λ u. 1) from (from + min load count) x y
-      → Painted (λ u. id % 256) (λ u. 2) (from + min load count) (from + count) y z
-      → Painted (stretch_id at id) (stretch_kind from at load) from (from + count) x z
-  painted_busy e p q = painted_join (omega arith) (omega arith)
-      (painted_as (λ u low high. rw (ne_eqb at 0 e)) (λ u low high. rw (ne_eqb at 0 e, lt-ltb (u - from) load (omega arith))) p)
-      (painted_as (λ u low high. rw (ne_eqb at 0 e)) (λ u low high. rw (ne_eqb at 0 e, le-ltb (u - from) load (omega arith))) q)

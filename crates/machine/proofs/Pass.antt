@@ -139,20 +139,16 @@ pub record Passing (p : ℕ) (t : Table) (xs zs : List ℕ) (u : ℕ) (s₀ : St
 
 -- the state with a new job of task i
 abbrev pub with_joined : State → ℕ → Joined → ℕ → ℕ → State
-with_joined s i j n next = record {
+with_joined s i j n next = record s {
   release = set s.release i j.release;
   due = set s.due i j.due;
   key = set s.key i j.key;
   need = set s.need i j.need;
   executed = set s.executed i nothing;
-  worst = s.worst;
   next = next;
   soonest = min s.soonest j.due;
   best = min s.best j.key;
-  last = s.last;
-  left = s.left;
   asked = used_of true s.asked n;
-  begun = s.begun;
 }
 
 module _ {p : ℕ} {t : Table} (sound : Sound t) {xs zs : List ℕ} {u : ℕ} {s₀ : State} (a : At p t xs zs u s₀) where

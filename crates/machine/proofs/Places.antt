@@ -8,6 +8,7 @@ use mathlib.Core.List.{List}
 use Prim.Native.Nat.{ℕ, suc, ◌+◌, ◌-◌, ◌*◌, ◌%◌, ◌≤◌, ◌<◌, min}
 use lib.Dec.{eqb}
 use lib.ListN.{get_or, drop}
+use Rattle.std.proofs.Common.{Option, Some}
 use Rattle.rules.specs.declared.Row.{Row}
 use Rattle.rules.specs.declared.Table.{Table}
 use Rattle.rules.specs.Policies.{row}
@@ -36,11 +37,11 @@ pub record Head : Type 0 where
   pub before : List ℕ
   pub slots : List ℕ
   pub state : State
-  pub was : Mark
+  pub was : Option Mark
   pub mark : ℕ
   pub time : ℕ
 
-abbrev pub head_of : ℕ → Table → List ℕ → List ℕ → ℕ → ℕ → List ℕ → List ℕ → State → Mark → ℕ → ℕ → Head
+abbrev pub head_of : ℕ → Table → List ℕ → List ℕ → ℕ → ℕ → List ℕ → List ℕ → State → Option Mark → ℕ → ℕ → Head
 head_of p t xs zs first end before slots s was mark u = record {
   policy = p;
   table = t;
@@ -58,12 +59,11 @@ head_of p t xs zs first end before slots s was mark u = record {
 
 -- the same run at time v
 abbrev pub at_time : Head → List ℕ → State → ℕ → Head
-at_time h slots s v = head_of h.policy h.table h.requests h.loadings h.first h.end h.before slots s h.was h.mark v
+at_time h slots s v = record h { slots = slots; state = s; time = v }
 
 -- at the same time, with the mark kept
 abbrev pub past_mark : Head → Head
-past_mark h = head_of h.policy h.table h.requests h.loadings h.first h.end h.before h.slots h.state
-    (keep h.state) (h.time + h.table.hyper) h.time
+past_mark h = record h { was = Some (keep h.state); mark = h.time + h.table.hyper }
 
 -- twice the time that is left, and one more where a mark is to be compared
 abbrev pub measure : Head → ℕ

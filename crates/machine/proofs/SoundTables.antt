@@ -1,6 +1,6 @@
 -- What a sound table in hand meets: all that the theory asks of a table, and its rows as the code reads them are the rules' rows.
 use mathlib.Core.Path.{◌≡◌, sym, ap, ◌∙◌}
-use Prim.Native.Nat.{ℕ, ◌-◌, ◌≤◌, ◌<◌, pred}
+use Prim.Native.Nat.{ℕ, ◌≤◌, ◌<◌}
 use native.Mathlib.Omega.{arith}
 use lib.ListN.{get_or, length}
 use lib.Seq.{get_or-take}
@@ -39,11 +39,9 @@ module _ (t : Table) (g : Sound t) where
   pub periods : (i : ℕ) → i < length (live t) → 0 < (row (live t) i).period
   periods i h = period_some i (omega (arith, g.count))
 
-  -- the id of task m - 1, as the code reads it
-  pub id_in : (m : ℕ) → 0 < m → m ≤ t.count → (get_or t.rows (m - 1) no_row).id ≡ (row (live t) (pred m)).id
-  id_in m some high =
-      let e : m - 1 ≡ pred m = omega arith in
-      rw e (ap (λ (w : Row). w.id) (sym (row_in (pred m) (omega arith))))
+  -- the id of task i, as the code reads it
+  pub id_in : (i : ℕ) → i < t.count → (get_or t.rows i no_row).id ≡ (row (live t) i).id
+  id_in i h = ap (λ (w : Row). w.id) (sym (row_in i h))
 
   pub deadline_some : (i : ℕ) → i < t.count → 0 < (row (live t) i).deadline
   deadline_some i h = let f = fine_in i h in omega (arith, f.wcet_low, f.wcet_deadline)

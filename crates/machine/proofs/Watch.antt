@@ -8,13 +8,12 @@ use native.Mathlib.Omega.{arith}
 use native.Mathlib.Nat.{mul-le-mul_right}
 use lib.ListN.{get_or}
 use Rattle.rules.specs.declared.Table.{Table}
+use Rattle.std.proofs.Common.{Option, None, Some}
 use Rattle.basics.specs.Cases.{eq_case, le_case}
-use Rattle.theory.proofs.Falls.{sane}
 use Rattle.slots.specs.Jobs.{never}
 use Rattle.machine.specs.declared.state.State.{State}
 use Rattle.machine.specs.declared.marks.Mark.{Mark}
-use Rattle.machine.specs.Machine.{Sound, system_in, choices, state_at, nothing, At, mark_of, SameAt, Alike, Repeats}
-use Rattle.machine.proofs.SoundTables.{count_top}
+use Rattle.machine.specs.Machine.{Sound, state_at, nothing, At, mark_of, SameAt, Again, Repeated}
 
 -- what is kept of a state stands for the run at time u
 pub record KeptAt (p : ℕ) (t : Table) (xs zs : List ℕ) (u : ℕ) (m : Mark) : Type 0 where
@@ -22,37 +21,41 @@ pub record KeptAt (p : ℕ) (t : Table) (xs zs : List ℕ) (u : ℕ) (m : Mark) 
   pub last : m.last ≡ (state_at p t xs zs u).last
   pub left : m.left.0 ≡ (state_at p t xs zs u).left
 
--- n is the next mark, the k-th, and not before u; 17 stands for no mark before it
-pub record Watch (p : ℕ) (t : Table) (xs zs : List ℕ) (n u : ℕ) (was : Mark) : Type 0 where
+abbrev pub KeptIn : ℕ → Table → List ℕ → List ℕ → ℕ → Option Mark → Type 0
+KeptIn p t xs zs u None = ⊥
+KeptIn p t xs zs u (Some m) = KeptAt p t xs zs u m
+
+-- n is the next mark, the k-th, and not before u; there is a mark before it, unless it is the first
+pub record Watch (p : ℕ) (t : Table) (xs zs : List ℕ) (n u : ℕ) (was : Option Mark) : Type 0 where
   pub k : ℕ
   pub mark : n ≡ mark_of t k
   pub ahead : u ≤ n
-  pub none : k ≡ 0 → was.last ≡ 17
-  pub kept : (j : ℕ) → k ≡ suc j → KeptAt p t xs zs (mark_of t j) was
+  pub none : k ≡ 0 → was ≡ None
+  pub kept : (j : ℕ) → k ≡ suc j → KeptIn p t xs zs (mark_of t j) was
   pub apart : (i : ℕ) → suc i < k → SameAt p t xs zs i → ⊥
 
 -- marks are compared only if the first is Omax
-pub record Watched (p : ℕ) (t : Table) (xs zs : List ℕ) (first mark u : ℕ) (was : Mark) : Type 0 where
+pub record Watched (p : ℕ) (t : Table) (xs zs : List ℕ) (first mark u : ℕ) (was : Option Mark) : Type 0 where
   pub unmarked : first ≡ never → mark ≡ never
   pub marked : first ≡ t.omax → Watch p t xs zs mark u was
 
 abbrev pub keep : State → Mark
 keep s = record { executed = s.executed; last = s.last; left = s.left }
 
-pub watched_start : {p : ℕ} {t : Table} {xs zs : List ℕ} {first : ℕ} {was : Mark} → was.last ≡ 17 → Watched p t xs zs first first 0 was
-watched_start e = record {
+pub watched_start : {p : ℕ} {t : Table} {xs zs : List ℕ} {first : ℕ} → Watched p t xs zs first first 0 None
+watched_start = record {
   unmarked = λ f. f;
   marked = λ f. record {
     k = 0;
     mark = omega (arith, f);
     ahead = omega arith;
-    none = λ z. e;
+    none = λ z. refl;
     kept = λ j z. absurd (omega arith);
     apart = λ i h. absurd (omega arith);
   };
 }
 
-module _ {p : ℕ} {t : Table} {xs zs : List ℕ} {first mark u : ℕ} {was : Mark} (w : Watched p t xs zs first mark u was) (low : u < never) where
+module _ {p : ℕ} {t : Table} {xs zs : List ℕ} {first mark u : ℕ} {was : Option Mark} (w : Watched p t xs zs first mark u was) (low : u < never) where
   -- the next mark is later, where it is not now
   pub mark_later : (first ≡ never) ⊎ (first ≡ t.omax) → mark ≢ u → u < mark
   mark_later (inl e) apart = omega (arith, w.unmarked e)
@@ -90,33 +93,37 @@ module _ {p : ℕ} {t : Table} {xs zs : List ℕ} {first mark u : ℕ} {was : Ma
     kept_now = rw (← at_mark) (record { executed = λ i h. (a.tasks i h).executed; last = a.last; left = a.left })
 
     -- equal to the mark before
-    same_as : (j : ℕ) → watch.k ≡ suc j → Alike t.count (keep s) was → SameAt p t xs zs j
-    same_as j e like =
-        let b = watch.kept j e in
-        let c = rw e at kept_now in
-        record {
-          executed = λ i h. let l : i < t.count = omega (arith, sound.count) in sym (b.executed i l) ∙ sym (like.executed i l) ∙ c.executed i l;
-          last = sym b.last ∙ sym like.last ∙ c.last;
-          left = sym b.left ∙ sym like.left ∙ c.left;
-        }
+    same_as : (j : ℕ) → watch.k ≡ suc j → Again t.count (keep s) was → SameAt p t xs zs j
+    same_as j e = go was (watch.kept j e)
+      where
+        go : (o : Option Mark) → KeptIn p t xs zs (mark_of t j) o → Again t.count (keep s) o → SameAt p t xs zs j
+        go None b like = absurd b
+        go (Some m) b like =
+            let c = rw e at kept_now in
+            record {
+              executed = λ i h. let l : i < t.count = omega (arith, sound.count) in sym (b.executed i l) ∙ sym (like.executed i l) ∙ c.executed i l;
+              last = sym b.last ∙ sym like.last ∙ c.last;
+              left = sym b.left ∙ sym like.left ∙ c.left;
+            }
 
-    like_as : (j : ℕ) → watch.k ≡ suc j → SameAt p t xs zs j → Alike t.count (keep s) was
-    like_as j e same =
-        let b = watch.kept j e in
-        let c = rw e at kept_now in
-        record {
-          executed = λ i h. c.executed i h ∙ sym (same.executed i (omega (arith, sound.count))) ∙ sym (b.executed i h);
-          last = c.last ∙ sym same.last ∙ sym b.last;
-          left = c.left ∙ sym same.left ∙ sym b.left;
-        }
+    like_as : (j : ℕ) → watch.k ≡ suc j → SameAt p t xs zs j → Again t.count (keep s) was
+    like_as j e same = go was (watch.kept j e)
+      where
+        go : (o : Option Mark) → KeptIn p t xs zs (mark_of t j) o → Again t.count (keep s) o
+        go None b = absurd b
+        go (Some m) b =
+            let c = rw e at kept_now in
+            record {
+              executed = λ i h. c.executed i h ∙ sym (same.executed i (omega (arith, sound.count))) ∙ sym (b.executed i h);
+              last = c.last ∙ sym same.last ∙ sym b.last;
+              left = c.left ∙ sym same.left ∙ sym b.left;
+            }
 
-    pub repeats_now : Alike t.count (keep s) was → Repeats p t xs zs u
+    pub repeats_now : Again t.count (keep s) was → Repeated p t xs zs u
     repeats_now like = go watch.k refl
       where
-        go : (n : ℕ) → watch.k ≡ n → Repeats p t xs zs u
-        go zero e =
-            let l : (state_at p t xs zs u).last ≡ suc 16 = sym a.last ∙ like.last ∙ watch.none e in
-            absurd (omega (arith, ((sane (system_in p t) (choices p t xs zs) u).current 16 l).0, sound.count, count_top t sound))
+        go : (n : ℕ) → watch.k ≡ n → Repeated p t xs zs u
+        go zero e = absurd (rw (watch.none e) at like)
         go (suc j) e = record {
           k = j;
           mark = rw e at at_mark;
@@ -124,7 +131,7 @@ module _ {p : ℕ} {t : Table} {xs zs : List ℕ} {first mark u : ℕ} {was : Ma
           apart = λ i h. watch.apart i (omega arith);
         }
 
-    pub watched_next : (Alike t.count (keep s) was → ⊥) → Watched p t xs zs first (u + t.hyper) u (keep s)
+    pub watched_next : (Again t.count (keep s) was → ⊥) → Watched p t xs zs first (u + t.hyper) u (Some (keep s))
     watched_next differ = record {
       unmarked = λ e. absurd (omega (arith, w.unmarked e));
       marked = λ g. record {

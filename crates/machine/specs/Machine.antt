@@ -1,6 +1,6 @@
 -- How the code's state stands for the rules' state at a time, and what the loop gives in these terms. Means of proof:
--- no public contract cites them.
-use Rattle.std.specs.Prelude.{◌≡◌, true, false, not, List, ℕ, suc, ◌+◌, ◌*◌, ◌≤◌, ◌<◌, eqb, get_or, take, drop, length}
+-- of public contracts only that of `machine::run` cites them, which hosts do not call.
+use Rattle.std.specs.Prelude.{◌≡◌, ◌≢◌, Bool, true, false, List, Option, None, Some, ℕ, suc, ◌+◌, ◌*◌, ◌≤◌, ◌<◌, get_or, take, drop, length}
 use Rattle.rules.specs.declared.Row.{Row}
 use Rattle.rules.specs.declared.Executed.{Executed}
 use Rattle.rules.specs.declared.Table.{Table}
@@ -16,6 +16,8 @@ use Rattle.theory.specs.Completions.{Seen}
 use Rattle.slots.specs.Jobs.{never}
 use Rattle.machine.specs.declared.state.State.{State}
 use Rattle.machine.specs.declared.Stop.{Stop}
+use Rattle.machine.specs.declared.Why.{Why}
+use Rattle.machine.specs.declared.Why.TheVariants.{Missed, Repeats, Ended}
 use Rattle.machine.specs.declared.marks.Mark.{Mark}
 use Rattle.machine.specs.Least.{Least}
 use Rattle.machine.specs.Turns.{tagged_of, rank_of}
@@ -111,9 +113,10 @@ pub record At (p : ℕ) (t : Table) (xs zs : List ℕ) (u : ℕ) (s : State) : T
   pub clean : (v : ℕ) → v < u → miss_at p t xs zs v ≡ 0
   pub seen : choices p t xs zs ≡ rules.stated (system_in p t) → (i : ℕ) → i < t.count → Seen (system_in p t) i u (worst_in s i)
 
--- the first of so many tasks with its deadline at a time: 0 for none, i + 1 for task i
-abbrev pub first_due : ℕ → List ℕ → ℕ → ℕ
-first_due rows due time = rules.pick (λ k. 0) (λ k. not (eqb (get_or due k never) time)) rows
+-- the first of so many deadlines that is at a time; or that none is
+abbrev pub FirstAt : List ℕ → ℕ → Option ℕ → Type 0
+FirstAt due time (Some i) = (i < length due) × (get_or due i never ≡ time) × ((k : ℕ) → k < i → get_or due k never ≢ time)
+FirstAt due time None = (k : ℕ) → k < length due → get_or due k never ≢ time
 
 -- MARKS: the times Omax + k × H
 
@@ -130,10 +133,26 @@ pub record Alike (n : ℕ) (a b : Mark) : Type 0 where
   pub last : a.last ≡ b.last
   pub left : a.left.0 ≡ b.left.0
 
+-- a mark is equal to the one before, if there is one
+abbrev pub Again : ℕ → Mark → Option Mark → Type 0
+Again n a None = ⊥
+Again n a (Some b) = Alike n a b
+
 -- WHAT THE FUNCTIONS GIVE
 
+-- the task that a run missed, as the rules number it: 0 for none, i + 1 for task i
+abbrev pub miss_of : Why → ℕ
+miss_of (Missed i) = suc i
+miss_of Repeats = 0
+miss_of Ended = 0
+
+abbrev pub repeats_in : Why → Bool
+repeats_in (Missed i) = false
+repeats_in Repeats = true
+repeats_in Ended = false
+
 -- the run stopped at mark k + 1, the first that has the state of the mark before
-pub record Repeats (p : ℕ) (t : Table) (xs zs : List ℕ) (u : ℕ) : Type 0 where
+pub record Repeated (p : ℕ) (t : Table) (xs zs : List ℕ) (u : ℕ) : Type 0 where
   pub k : ℕ
   pub mark : u ≡ mark_of t (suc k)
   pub same : SameAt p t xs zs k
@@ -142,14 +161,14 @@ pub record Repeats (p : ℕ) (t : Table) (xs zs : List ℕ) (u : ℕ) : Type 0 w
 -- a run up to `end`, whose marks are compared if the first is Omax and not `never`
 pub record Ran (p : ℕ) (t : Table) (xs zs : List ℕ) (first end : ℕ) (r : Stop) : Type 0 where
   pub most : r.time ≤ end
-  pub task : r.miss ≤ t.count
+  pub task : miss_of r.why ≤ t.count
   pub clean : (v : ℕ) → v < r.time → miss_at p t xs zs v ≡ 0
-  pub miss : r.miss ≡ miss_at p t xs zs r.time
-  pub seen : r.miss ≡ 0 → choices p t xs zs ≡ rules.stated (system_in p t) → (i : ℕ) → i < t.count → Seen (system_in p t) i r.time (get_or r.worst i 0)
-  pub repeats : r.repeats ≡ true → Repeats p t xs zs r.time
-  pub alone : first ≡ never → r.repeats ≡ false
-  pub through : r.repeats ≡ false → r.miss ≡ 0 → r.time ≡ end
-  pub apart : r.repeats ≡ false → r.miss ≡ 0 → first ≡ t.omax → (i : ℕ) → mark_of t (suc i) ≤ end → SameAt p t xs zs i → ⊥
+  pub miss : miss_of r.why ≡ miss_at p t xs zs r.time
+  pub seen : miss_of r.why ≡ 0 → choices p t xs zs ≡ rules.stated (system_in p t) → (i : ℕ) → i < t.count → Seen (system_in p t) i r.time (get_or r.worst i 0)
+  pub repeats : repeats_in r.why ≡ true → Repeated p t xs zs r.time
+  pub alone : first ≡ never → repeats_in r.why ≡ false
+  pub through : repeats_in r.why ≡ false → miss_of r.why ≡ 0 → r.time ≡ end
+  pub apart : repeats_in r.why ≡ false → miss_of r.why ≡ 0 → first ≡ t.omax → (i : ℕ) → mark_of t (suc i) ≤ end → SameAt p t xs zs i → ⊥
 
 -- the bytes of the run's slots u .. v
 abbrev pub PaintedRun : ℕ → Table → List ℕ → List ℕ → ℕ → ℕ → List ℕ → List ℕ → Type 0

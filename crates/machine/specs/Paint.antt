@@ -1,5 +1,14 @@
 -- What the functions that write bytes leave in a lent buffer. Means of proof.
 use Rattle.std.specs.Prelude.{◌≡◌, ◌⊎◌, cond, List, ℕ, ◌+◌, ◌-◌, ◌*◌, ◌%◌, ◌≤◌, ◌<◌, eqb, ltb, get_or, length}
+use Rattle.machine.specs.declared.paint.Kind.{Kind}
+use Rattle.machine.specs.declared.paint.Kind.TheVariants.{Idle, Loading, Executing, Missed}
+
+-- what a slot is, as its second byte says it: "0 idle .., 1 loading, 2 executing", and 3 from the miss on
+abbrev pub byte_of : Kind → ℕ
+byte_of Idle = 0
+byte_of Loading = 1
+byte_of Executing = 2
+byte_of Missed = 3
 
 -- slots from .. to are painted, as far as there is room: the two bytes of slot u are f u and g u. All other bytes stay
 pub record Painted (f g : ℕ → ℕ) (from to : ℕ) (before after : List ℕ) : Type 0 where

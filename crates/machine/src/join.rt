@@ -27,7 +27,7 @@ pub fn join(policy: u32, r: Row, i: usize, time: u64, ask: u32) -> Joined
     requires { (i < 16) × (time ≤ 281474976710656) }
     ensures { result ≡ joined_of policy r i time ask }
 {
-    let n = Executed(slots::lesser(ask, r.wcet));
+    let n = Executed(ask.min(r.wcet));
     let due = time + r.deadline as u64;
     let key = tagged(slots::key(policy, r, due), i);
     Joined {

@@ -1,47 +1,37 @@
 // The least of an array of times or of keys, where unused places hold NEVER. Four places are looked at together: so the compiler
 // has no chain of sixteen comparisons to wait for, and a small table has few places to look at.
-ghost use Rattle.std.specs.Prelude.{◌≡◌, ◌≢◌, ◌*◌, ◌≤◌, length};
-ghost use Rattle.machine.specs.Least.{Least};
+ghost use Rattle.std.specs.Prelude.{◌≡◌, ◌≢◌, ◌≤◌};
+ghost use Rattle.machine.specs.Least.{Places, LeastOf};
 
-// The blocks of four that hold so many rows.
-pub fn blocks(rows: usize) -> usize
+// The places that hold so many rows, in blocks of four.
+pub fn places(rows: usize) -> usize
     requires { rows ≤ 16 }
-    ensures { (result ≤ 4) × (rows ≤ 4 * result) }
+    ensures { Places rows result }
 {
-    if rows <= 4 {
-        return 1;
+    match rows {
+        0..=4 => 4,
+        5..=8 => 8,
+        9..=12 => 12,
+        _ => 16,
     }
-    if rows <= 8 {
-        return 2;
-    }
-    if rows <= 12 {
-        return 3;
-    }
-    4
 }
 
-pub fn least(count: usize, a: &[u64; 16]) -> u64
-    requires { (count ≤ 4) × (length a.now ≡ 16) }
-    ensures { Least (4 * count) a.now result }
+// The least of whole blocks of four.
+pub fn least(a: &[u64]) -> u64
+    ensures { LeastOf a.now result }
 {
     let mut m = slots::NEVER;
-    let mut j: usize = 0;
-    while j < count {
-        let x = slots::sooner(a[4 * j], a[4 * j + 1]);
-        let y = slots::sooner(a[4 * j + 2], a[4 * j + 3]);
-        m = slots::sooner(m, slots::sooner(x, y));
-        j += 1;
+    for four in a.as_chunks::<4>().0 {
+        let x = four[0].min(four[1]);
+        let y = four[2].min(four[3]);
+        m = m.min(x.min(y));
     }
     m
 }
 
 // The least once `gone` is no longer in the array, where it was m before.
-pub fn without(count: usize, a: &[u64; 16], gone: u64, m: u64) -> u64
-    requires { (count ≤ 4) × (length a.now ≡ 16) }
-    ensures { (gone ≡ m → Least (4 * count) a.now result) × (gone ≢ m → result ≡ m) }
+pub fn without(a: &[u64], gone: u64, m: u64) -> u64
+    ensures { (gone ≡ m → LeastOf a.now result) × (gone ≢ m → result ≡ m) }
 {
-    if gone == m {
-        return least(count, a);
-    }
-    m
+    if gone == m { least(a) } else { m }
 }

@@ -3,12 +3,11 @@
 // replies of where it stopped.
 #![tactic(auto)]
 
-ghost use Rattle.std.specs.Prelude.{◌≡◌, ◌⊎◌, ◌-◌, ◌≤◌, get_or, length};
-ghost use Rattle.rules.specs.Table.{no_row};
+ghost use Rattle.std.specs.Prelude.{◌≡◌, ◌⊎◌, ◌≤◌};
 ghost use Rattle.slots.specs.Jobs.{never};
-ghost use Rattle.machine.specs.Machine.{Sound, first_due, Ran, PaintedRun};
+ghost use Rattle.machine.specs.Machine.{Sound, FirstAt, Ran, PaintedRun};
 
-use crate::marks::Mark;
+use marks::Mark;
 use rules::{Executed, Loading, Table};
 
 mod join;
@@ -18,53 +17,37 @@ pub mod paint;
 mod state;
 mod turn;
 
-// Where a run stopped, and why: at a miss, which is of row i if it is i + 1; or at a mark with the state of the mark before; or, with
-// neither, at its end. And the longest responses so far.
-#[derive(Clone, Copy)]
+// Why a run stopped.
+#[derive(Clone, Copy, Debug, PartialEq, Eq)]
+pub enum Why {
+    // At a missed deadline, of this row.
+    Missed(usize),
+    // At a mark with the state of the mark before.
+    Repeats,
+    // At its end.
+    Ended,
+}
+
+// Where a run stopped, and why; and the longest responses so far.
+#[derive(Clone, Copy, Debug, PartialEq, Eq)]
 pub struct Stop {
     pub worst: [u32; 16],
     pub time: u64,
-    pub miss: usize,
-    pub repeats: bool,
+    pub why: Why,
 }
 
-// The first with its deadline at a time: 0 for none, i + 1 for row i.
-fn overdue(rows: usize, due: &[u64; 16], time: u64) -> usize
-    requires { (rows ≤ 16) × (length due.now ≡ 16) }
-    ensures { result ≡ first_due rows due.now time }
+// The first row with its deadline at a time.
+fn overdue(due: &[u64], time: u64) -> Option<usize>
+    ensures { FirstAt due.now time result }
 {
-    let mut miss: usize = 0;
-    let mut i: usize = 0;
-    while i < rows {
-        miss = slots::missed(due[i] == time, i + 1, miss);
-        i += 1;
-    }
-    miss
-}
-
-// The row of at: at - 1, and 0 for none.
-fn place(at: usize) -> usize
-    ensures { result ≡ at - 1 }
-{
-    if 0 < at {
-        return at - 1;
-    }
-    0
-}
-
-pub fn id_of(t: Table, at: usize) -> u32
-    requires { at ≤ 16 }
-    ensures { result ≡ (get_or t.rows (at - 1) no_row).id }
-{
-    let p = place(at);
-    let r = t.rows[p];
-    r.id
+    due.iter().position(|d| *d == time)
 }
 
 // The run up to `end`: it stops before at a miss; and, where a first mark is given, which is Omax then, at a mark with the state of
-// the mark before. Deadlines are tested first, and a mark's state is that before jobs join.
+// the mark before. Deadlines are tested first, and a mark's state is that before jobs join. The two lists are two slices, as C lends them;
+// NEVER for the first mark is none, since a mark is compared with the time at each turn.
 pub fn run(
-    t: Table,
+    t: &Table,
     policy: u32,
     first: u64,
     end: u64,
@@ -72,60 +55,52 @@ pub fn run(
     loadings: &[u32],
     slots: &mut [u8],
 ) -> Stop
-    requires sound { Sound t }
-    requires first_mark { (first ≡ never) ⊎ (first ≡ t.omax) }
+    requires sound { Sound t.now }
+    requires first_mark { (first ≡ never) ⊎ (first ≡ t.now.omax) }
     requires end_bound { end ≤ 281474976710656 }
-    ensures ran { Ran policy t requests.now loadings.now first end result }
-    ensures painted_run { PaintedRun policy t requests.now loadings.now 0 result.time slots.old slots.new }
+    ensures ran { Ran policy t.now requests.now loadings.now first end result }
+    ensures painted_run { PaintedRun policy t.now requests.now loadings.now 0 result.time slots.old slots.new }
 {
     let rows = t.count;
-    let blocks = crate::least::blocks(rows);
+    let places = least::places(rows);
     let hyper = t.hyper as u64;
-    let mut s = crate::state::begin(t);
-    let mut was = crate::marks::before();
+    let mut s = state::begin(&t.rows[..rows]);
+    let mut was: Option<Mark> = None;
     let mut mark = first;
     let mut time: u64 = 0;
     loop {
         // a deadline of a job that is not complete
         if s.soonest == time {
-            let m = overdue(rows, &s.due, time);
-            let w = s.worst;
+            let row = overdue(&s.due[..rows], time).unwrap();
             return Stop {
-                worst: w,
-                time: time,
-                miss: m,
-                repeats: false,
+                worst: s.worst,
+                time,
+                why: Why::Missed(row),
             };
         }
         // a mark: is its state that of the mark before?
         if mark == time {
-            let e = s.executed;
-            let l = s.left;
             let here = Mark {
-                executed: e,
+                executed: s.executed,
                 last: s.last,
-                left: l,
+                left: s.left,
             };
-            if crate::marks::same(rows, here, was) {
-                let w = s.worst;
+            if marks::same(rows, here, was) {
                 return Stop {
-                    worst: w,
-                    time: time,
-                    miss: 0,
-                    repeats: true,
+                    worst: s.worst,
+                    time,
+                    why: Why::Repeats,
                 };
             }
-            was = here;
+            was = Some(here);
             mark = time + hyper;
             continue;
         }
         if time == end {
-            let w = s.worst;
             return Stop {
-                worst: w,
-                time: time,
-                miss: 0,
-                repeats: false,
+                worst: s.worst,
+                time,
+                why: Why::Ended,
             };
         }
         // jobs join, the smaller row first
@@ -133,30 +108,24 @@ pub fn run(
             let i = (s.next % 16) as usize;
             let r = t.rows[i];
             let ask = slots::entry(requests, s.asked, r.wcet);
-            let j = crate::join::join(policy, r, i, time, ask);
-            let n = j.need;
-            let z = Executed(0);
-            s.need[i] = n;
-            s.executed[i] = z;
+            let j = join::join(policy, r, i, time, ask);
+            s.need[i] = j.need;
+            s.executed[i] = Executed(0);
             s.release[i] = j.release;
             s.due[i] = j.due;
             s.key[i] = j.key;
-            s.soonest = slots::sooner(s.soonest, j.due);
-            s.best = slots::sooner(s.best, j.key);
+            s.soonest = s.soonest.min(j.due);
+            s.best = s.best.min(j.key);
             s.asked = slots::used(true, s.asked, requests.len());
-            s.next = crate::least::least(blocks, &s.release);
+            s.next = least::least(&s.release[..places]);
         }
         // nothing else happens before this time
-        let stop = slots::sooner(
-            slots::sooner(end, mark),
-            slots::sooner(s.next / 16, s.soonest),
-        );
+        let stop = end.min(mark).min((s.next / 16).min(s.soonest));
         // every job is complete: idle
         if s.best == slots::NEVER {
-            crate::paint::stretch(slots, time as usize, (stop - time) as usize, 0, 0, 0);
-            let none = Loading(0);
+            paint::stretch(slots, time as usize, (stop - time) as usize, 0, 0, 0);
             s.last = 0;
-            s.left = none;
+            s.left = Loading(0);
             time = stop;
             continue;
         }
@@ -165,13 +134,13 @@ pub fn run(
         let r = t.rows[p];
         let e = s.executed[p];
         let n = s.need[p];
-        let left = s.left;
         let again = slots::continues(s.last, p + 1, s.release[p] / 16, time + r.period as u64);
-        let l = crate::turn::load(r, e, again, left, s.begun, loadings);
+        let l = turn::load(r, e, again, s.left, s.begun, loadings);
         let load = l.slots;
-        let full = crate::turn::finish(time, load, n, e);
-        let d = slots::span(time, slots::sooner(stop, full));
-        crate::paint::stretch(
+        let rest = n.0.saturating_sub(e.0);
+        let full = time + load.0 as u64 + rest as u64;
+        let d = slots::span(time, stop.min(full));
+        paint::stretch(
             slots,
             time as usize,
             d as usize,
@@ -182,26 +151,25 @@ pub fn run(
         s.begun = l.begun;
         // something happens first: it goes on from here, or is preempted
         if stop < full {
-            let x = slots::worked(n, e, slots::minus(d, load.0));
-            let y = Loading(slots::minus(load.0, d));
-            s.executed[p] = x;
+            s.executed[p] = slots::worked(n, e, d.saturating_sub(load.0));
             s.last = p + 1;
-            s.left = y;
+            s.left = Loading(load.0.saturating_sub(d));
             time = stop;
             continue;
         }
         // it is complete
-        let none = Loading(0);
-        let took = slots::minus(r.period, slots::span(full, s.release[p] / 16));
+        let took = r
+            .period
+            .saturating_sub(slots::span(full, s.release[p] / 16));
         let gone = s.due[p];
         s.executed[p] = n;
-        s.worst[p] = slots::greater(s.worst[p], took);
+        s.worst[p] = s.worst[p].max(took);
         s.last = 0;
-        s.left = none;
+        s.left = Loading(0);
         s.due[p] = slots::NEVER;
         s.key[p] = slots::NEVER;
-        s.soonest = crate::least::without(blocks, &s.due, gone, s.soonest);
-        s.best = crate::least::least(blocks, &s.key);
+        s.soonest = least::without(&s.due[..places], gone, s.soonest);
+        s.best = least::least(&s.key[..places]);
         time = full;
     }
 }

@@ -1,13 +1,14 @@
 // The state of the loop, and where it begins.
-ghost use Rattle.std.specs.Prelude.{List, ℕ};
-ghost use Rattle.machine.specs.Machine.{Sound, At};
+ghost use Rattle.std.specs.Prelude.{◌≤◌, length};
+ghost use Rattle.machine.specs.Begun.{Begun};
 
-use rules::{Executed, Loading, Table};
+use rules::{Executed, Loading, Row};
 
 // The state at a time, before jobs join. Of each task the time of the next release; of its newest job, while it is incomplete, the
 // deadline and the key by which it goes first, and NEVER once it is complete; what it is to have and what it has executed; the
-// longest response of the task's jobs. Releases and keys carry their row. Then the least of releases, deadlines and keys. asked and
-// begun are places in the lists.
+// longest response of the task's jobs. Releases and keys carry their row. Then the least of releases, deadlines and keys. last is the task
+// that had the slot before, 0 for none and i + 1 for row i, as the rules number tasks. asked and begun are places in the lists.
+// Arrays of numbers: of the layouts tried this is the fastest, and an Option of a deadline would be a test in each least.
 #[derive(Clone, Copy)]
 pub struct State {
     pub release: [u64; 16],
@@ -26,20 +27,17 @@ pub struct State {
 }
 
 // The state at time 0.
-pub fn begin(t: Table) -> State
-    requires { Sound t }
-    ensures { (p : ℕ) (xs zs : List ℕ) → At p t xs zs 0 result }
+pub fn begin(rows: &[Row]) -> State
+    requires { length rows.now ≤ 16 }
+    ensures { Begun rows.now (length rows.now) result }
 {
-    let never = [slots::NEVER; 16];
-    let none = [Executed(0); 16];
-    let zero = [0u32; 16];
     let mut s = State {
-        release: never,
-        due: never,
-        key: never,
-        need: none,
-        executed: none,
-        worst: zero,
+        release: [slots::NEVER; 16],
+        due: [slots::NEVER; 16],
+        key: [slots::NEVER; 16],
+        need: [Executed(0); 16],
+        executed: [Executed(0); 16],
+        worst: [0; 16],
         next: slots::NEVER,
         soonest: slots::NEVER,
         best: slots::NEVER,
@@ -48,17 +46,12 @@ pub fn begin(t: Table) -> State
         asked: 0,
         begun: 0,
     };
-    let rows = t.count;
-    let mut i: usize = 0;
-    while i < rows {
-        let r = t.rows[i];
-        let e = Executed(r.wcet);
+    for (i, r) in rows.iter().enumerate() {
         let o = crate::join::tagged(r.offset as u64, i);
         s.release[i] = o;
-        s.need[i] = e;
-        s.executed[i] = e;
-        s.next = slots::sooner(s.next, o);
-        i += 1;
+        s.need[i] = Executed(r.wcet);
+        s.executed[i] = Executed(r.wcet);
+        s.next = s.next.min(o);
     }
     s
 }

@@ -1,5 +1,5 @@
 // What a job does once it has the slot: it loads, then executes.
-ghost use Rattle.std.specs.Prelude.{◌≡◌, ◌+◌, ◌-◌, ◌≤◌};
+ghost use Rattle.std.specs.Prelude.{◌≡◌};
 ghost use Rattle.machine.specs.Turns.{load_of};
 
 use rules::{Executed, Loading, Row};
@@ -29,12 +29,4 @@ pub fn load(
         slots: l,
         begun: slots::used(slots::begins(again, stated), begun, loadings.len()),
     }
-}
-
-// When it is complete, if it keeps the slot.
-pub fn finish(time: u64, l: Loading, need: Executed, done: Executed) -> u64
-    requires { time ≤ 281474976710656 }
-    ensures { result ≡ time + l.0 + (need.0 - done.0) }
-{
-    time + l.0 as u64 + slots::minus(need.0, done.0) as u64
 }

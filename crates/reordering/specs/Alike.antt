@@ -1,13 +1,13 @@
 -- Sources that are read as the same table: the same refusal, or the same tasks. Every reply to the one is then a reply to the other
--- (`theory/specs/Reordered`). A source and what the code keeps of it are alike (`read_alike`), however many rows it has.
+-- (`theory/proofs/Reordered`). A source and what the code keeps of it are alike (`read_alike`), however many rows it has.
 use Rattle.std.specs.Prelude.{◌≡◌, List, ◌++◌, ◌≤◌, ◌<◌, length, take, replicate}
-use Rattle.std.proofs.Common.{sym, ap, ◌∙◌, arith, ne_eqb, le-leb, length-append, length-take-le}
+use Rattle.std.proofs.Common.{sym, refl, ◌∙◌, arith, eq-eqb, ne_eqb, le-leb, length-append, length-take-le}
 use Rattle.std.proofs.lemmas.Bool.{lt-leb}
 use Rattle.std.proofs.lemmas.List.{length-replicate, take-append-le}
 use Rattle.rules.specs.declared.Row.{Row}
 use Rattle.rules.specs.declared.RowsRead.{RowsRead}
 use Rattle.rules.specs.Table.{no_row, padded}
-use Rattle.rules.specs.Sources.{Source, read_of, rows_in, source_of}
+use Rattle.rules.specs.Sources.{Source, given, kept, read_of, rows_in, source_of}
 use Rattle.rules.specs.Checks.{found, first_fault, refusal_of}
 use Rattle.rules.specs.Verdicts.{tasks_of}
 use Rattle.basics.specs.Cases.{eq_case, le_case}
@@ -16,9 +16,6 @@ use Rattle.reordering.specs.Canonical.{padded_rows}
 pub record Alike (s t : Source) : Type 0 where
   pub refusal : refusal_of s ≡ refusal_of t
   pub tasks : (refusal_of s).number ≡ 0 → tasks_of s ≡ tasks_of t
-
-alike_same : (s t : Source) → s ≡ t → Alike s t
-alike_same s t e = record { refusal = ap refusal_of e; tasks = λ fine. ap tasks_of e }
 
 -- WHAT THE CODE KEEPS
 
@@ -39,16 +36,21 @@ many_refused s own many = rw (own, le-leb 1 (length s.rows) (omega arith), lt-le
 
 pub read_alike : (s : Source) → Alike (source_of (read_of s)) s
 unfolding refusal_of
-read_alike s = le_case (length s.rows) 16
-    (λ few. alike_same (source_of (read_of s)) s (ap (λ (rows : List Row). record { refusal = s.refusal; rows = rows }) (rows_first (read_of s) (omega (arith, padded_length s.rows)) ∙ padded_rows s.rows few)))
-    (λ many. eq_case s.refusal.number 0
-    (λ own.
-    let kept = many_refused (source_of (read_of s)) own (omega (arith, rows_count (read_of s))) in
+read_alike s = eq_case s.refusal.number 0
+    (λ own. rw (eq-eqb s.refusal.number 0 own) (le_case (length s.rows) 16
+    (λ few.
+    let whole : rows_in (kept s.rows) ≡ s.rows = rows_first (kept s.rows) (omega (arith, padded_length s.rows)) ∙ padded_rows s.rows few in
     record {
-      refusal = kept ∙ sym (many_refused s own many);
-      tasks = λ fine. absurd (omega (arith, rw kept at fine));
+      refusal = rw (own, whole) refl;
+      tasks = λ fine. rw whole refl;
     })
-    (λ own. record {
-      refusal = rw (ne_eqb s.refusal.number 0 own);
+    (λ many.
+    let five = many_refused (given (rows_in (kept s.rows))) refl (omega (arith, rows_count (kept s.rows))) in
+    record {
+      refusal = five ∙ sym (many_refused s own many);
+      tasks = λ fine. absurd (omega (arith, rw five at fine));
+    })))
+    (λ own. rw (ne_eqb s.refusal.number 0 own) (record {
+      refusal = rw (ne_eqb s.refusal.number 0 own) refl;
       tasks = λ fine. absurd (own (rw (ne_eqb s.refusal.number 0 own) at fine));
     }))

@@ -1,55 +1,43 @@
--- Words laid into lent bytes: a turn of the loop that lays one, and two words one after the other are one word.
-use mathlib.Core.Path.{◌≡◌, refl, sym, ap, ◌∙◌}
-use mathlib.Core.List.{List, ◌++◌, append_assoc}
-use Prim.Native.Nat.{ℕ, suc, ◌+◌, ◌≤◌, ◌<◌}
-use native.Mathlib.Numerals.{add-one}
+-- The lines of the first policies, one after the other: none at the start, one more with each turn of the loop, and four at its end.
+-- `report` uses it.
+use mathlib.Core.Path.{◌≡◌, refl, sym, ◌∙◌}
+use mathlib.Core.List.{List, [], ◌++◌, append_assoc}
+use Prim.Native.Nat.{ℕ, zero, suc, ◌+◌, ◌-◌, ◌≤◌}
 use native.Mathlib.Omega.{arith}
-use lib.ListN.{length, get_or, set, take, drop, length-append}
-use lib.Seq.{paste, paste-suc, take-paste, drop-paste, length-paste, take-length, drop-drop, length-take-le}
-use Rattle.io.specs.Counts.{IsPrefixLen}
-use Rattle.report.specs.Reports.{Puts}
+use lib.ListN.{length, drop}
+use Rattle.report.specs.Reports.{Line, FourLines, Puts}
 
--- THE LOOP: i bytes of the word are laid
-abbrev pub Laying : List ℕ → ℕ → List ℕ → List ℕ → ℕ → Type 0
-Laying word k before out i = (i ≤ length word) × (length out ≡ length before) × (out ≡ paste before k word i)
+-- the lines of the first n policies
+abbrev pub Laid : List ℕ → ℕ → List ℕ → Type 0
+Laid text zero bytes = bytes ≡ []
+Laid text (suc n) bytes = (before : List ℕ) × (line : List ℕ) × Laid text n before × Line (suc n) text line × (bytes ≡ before ++ line)
 
-pub laying_turn : (word before out : List ℕ) (k i : ℕ) → k + length word ≤ length before → Laying word k before out i → i < length word
-    → Laying word k before (set out (k + i) (get_or word i 0)) (i + 1)
-laying_turn word before out k i fits l h =
-    let on : set out (k + i) (get_or word i 0) ≡ paste before k word (suc i) =
-    ap (λ (o : List ℕ). set o (k + i) (get_or word i 0)) l.2 ∙ paste-suc before k word i 0 (omega arith) h in
-    (omega arith, ap length on ∙ length-paste before k word (suc i) (omega arith) (omega arith), rw (add-one i) on)
+pub one_more : (text : List ℕ) (policy n : ℕ) (before line : List ℕ) {after : List ℕ} → policy ≡ suc n → Laid text n before
+    → Line policy text line
+    → after ≡ before ++ line → Laid text (policy + 1 - 1) after
+one_more text policy n before line e l k put =
+    let on : policy + 1 - 1 ≡ suc n = omega arith in rw on (before, line, l, rw e at k, put)
 
-pub laying_done : (word before out : List ℕ) (k i : ℕ) → k + length word ≤ length before → Laying word k before out i → length word ≤ i
-    → Puts k word before out (k + length word)
-laying_done word before out k i fits l h =
-    let all : i ≡ length word = omega arith in
-    record { end = refl; fits = fits; bytes = l.2 ∙ rw (all, take-length) }
-
--- ONE AFTER THE OTHER
-pub puts_length : {k r : ℕ} {word before after : List ℕ} → Puts k word before after r → length after ≡ length before
-puts_length {k} {r} {word} {before} {after} p =
-    let e : after ≡ paste before k word (length word) = p.bytes ∙ rw (take-length word) in
-    ap length e ∙ length-paste before k word (length word) p.fits (omega arith)
-
-pub then : {k r s : ℕ} {w v a b c : List ℕ} → Puts k w a b r → Puts r v b c s → Puts k (w ++ v) a c s
-then {k} {r} {s} {w} {v} {a} {b} {c} p q =
-    let n = length w in
-    let e : b ≡ paste a k w n = p.bytes ∙ rw (take-length w) in
-    let both = length-append w v in
-    let far : k + length (w ++ v) ≡ k + n + length v = omega arith in
-    let front : take (k + n) b ≡ take k a ++ w =
-    ap (take (k + n)) e ∙ take-paste a k w n (omega (arith, p.fits)) (omega arith) ∙ ap (λ (l : List ℕ). take k a ++ l) (take-length w) in
-    let back : drop (k + n + length v) b ≡ drop (k + n + length v) a =
-    sym (drop-drop (length v) (k + n) b) ∙ ap (drop (length v)) (ap (drop (k + n)) e ∙ drop-paste a k w n (omega (arith, p.fits)) (omega arith)) ∙ drop-drop (length v) (k + n) a in
+pub four : (text bytes : List ℕ) → Laid text 4 bytes → FourLines text bytes
+four text bytes l =
+    let m = l.2 in
+    let n = m.2 in
+    let o = n.2 in
     record {
-      end = omega (arith, p.end, q.end);
-      fits = omega (arith, p.end, q.fits, puts_length p);
-      bytes = q.bytes ∙ rw (p.end, front, back, far, append_assoc (take k a) w v);
+      one = o.1;
+      two = n.1;
+      three = m.1;
+      four = l.1;
+      fixed = o.3;
+      period = n.3;
+      deadline = m.3;
+      earliest = l.3;
+      together = l.4 ∙ rw (m.4, n.4, o.4, o.2, append_assoc (o.1 ++ n.1) m.1 l.1, append_assoc o.1 n.1 (m.1 ++ l.1)) refl;
     }
 
--- as the library counts bytes at the front
-pub counts : {r : ℕ} {word before after : List ℕ} → Puts 0 word before after r → IsPrefixLen r after
-counts {r} {word} {before} {after} p =
-    let low : r ≤ length after = omega (arith, p.end, p.fits, puts_length p) in
-    (low, sym (length-take-le r after low))
+-- bytes at the front of others
+pub at_front : (word before after : List ℕ) → length word ≤ length before → after ≡ word ++ drop (length word) before
+    → Puts 0 word before after (length word)
+at_front word before after fits e =
+    let none : 0 + length word ≡ length word = omega arith in
+    record { end = sym none; fits = rw none fits; bytes = rw none e }

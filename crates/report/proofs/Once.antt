@@ -15,12 +15,15 @@ use Rattle.report.specs.Reports.{Line, FourLines, Puts, Reports}
 line_once : {p : ℕ} {text x z : List ℕ} → Line p text x → Line p text z → x ≡ z
 line_once {p} {text} a b =
     let s = text_source text in
-    a.bytes ∙ ap (line_of p) (verdict_one (verdict_refusal p s) (system_of p s) (omax (tasks_of s)) (hyper (tasks_of s)) allowance a.reply b.reply a.right b.right) ∙ sym b.bytes
+    let e = verdict_one (verdict_refusal p s) (system_of p s) (omax (tasks_of s)) (hyper (tasks_of s)) allowance
+    a.reply b.reply a.right b.right in
+    a.bytes ∙ ap (line_of p) e ∙ sym b.bytes
 
 four_once : {text x z : List ℕ} → FourLines text x → FourLines text z → x ≡ z
 four_once a b =
     a.together
-    ∙ rw (line_once a.fixed b.fixed, line_once a.period b.period, line_once a.deadline b.deadline, line_once a.earliest b.earliest) (sym b.together)
+    ∙ rw (line_once a.fixed b.fixed, line_once a.period b.period, line_once a.deadline b.deadline, line_once a.earliest b.earliest)
+    (sym b.together)
 
 puts_once : {k : ℕ} {w v before x z : List ℕ} {r s : ℕ} → w ≡ v → Puts k w before x r → Puts k v before z s → (r ≡ s) × (x ≡ z)
 puts_once e a b = (rw e at a.end ∙ sym b.end, rw e at a.bytes ∙ sym b.bytes)

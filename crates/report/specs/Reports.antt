@@ -31,12 +31,6 @@ pub record Puts (k : ℕ) (word before after : List ℕ) (r : ℕ) : Type 0 wher
   pub fits : k + length word ≤ length before
   pub bytes : after ≡ take k before ++ word ++ drop (k + length word) before
 
-pub record PutsLine (p : ℕ) (text : List ℕ) (k : ℕ) (before after : List ℕ) (r : ℕ) : Type 0 where
-  pub line : List ℕ
-  pub right : Line p text line
-  pub puts : Puts k line before after r
-  pub short : r ≤ k + 73
-
 -- the lines at the front, r bytes, with the bytes after them as they were; too few bytes stay as lent
 pub record Reports (text before after : List ℕ) (r : ℕ) : Type 0 where
   pub short : length before < 292 → (r ≡ 0) × (after ≡ before)

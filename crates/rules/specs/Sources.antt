@@ -1,5 +1,5 @@
 -- What a reader hands over, whatever it read: everything after reading is said of such a source, once. Definitions.
-use Rattle.std.specs.Prelude.{cond, List, [], ◌++◌, ℕ, eqb, leb, length, take, replicate}
+use Rattle.std.specs.Prelude.{cond, List, [], ◌++◌, ℕ, eqb, leb, length, take, replicate, Result, Ok, Err}
 use Rattle.rules.specs.declared.Row.{Row}
 use Rattle.rules.specs.declared.Refusal.{Refusal}
 use Rattle.rules.specs.declared.RowsRead.{RowsRead}
@@ -28,13 +28,17 @@ text_source s =
     (cond (eqb (bad_line s) 0) (given (rows_of s)) (refused_by 4 (bad_line s)))
     (refused_by 3 0)
 
--- AS THE CODE HOLDS IT: the first sixteen rows, and how many there are. Of a row past the sixteenth, which no table has, no more is
--- kept than that it is there; a blank one stands for it
-abbrev pub read_of : Source → RowsRead
-read_of s = record { rows = padded s.rows; count = length s.rows; refusal = s.refusal }
+-- AS THE CODE HOLDS IT: the refusal, or the first sixteen rows and how many there are. Of a row past the sixteenth, which no table has, no
+-- more is kept than that it is there; a blank one stands for it
+abbrev pub kept : List Row → RowsRead
+kept rows = record { rows = padded rows; count = length rows }
+
+abbrev pub read_of : Source → Result RowsRead Refusal
+read_of s = cond (eqb s.refusal.number 0) (Ok (kept s.rows)) (Err s.refusal)
 
 abbrev pub rows_in : RowsRead → List Row
 rows_in r = take r.count (r.rows ++ replicate r.count no_row)
 
-abbrev pub source_of : RowsRead → Source
-source_of r = record { refusal = r.refusal; rows = rows_in r }
+abbrev pub source_of : Result RowsRead Refusal → Source
+source_of (Ok r) = given (rows_in r)
+source_of (Err f) = record { refusal = f; rows = [] }

@@ -11,9 +11,6 @@ never = 18446744073709551615
 abbrev pub used_of : Bool → ℕ → ℕ → ℕ
 used_of uses i n = cond uses (cond (ltb i n) (i + 1) i) i
 
-abbrev pub missed_of : Bool → ℕ → ℕ → ℕ
-missed_of late at miss = cond late (cond (eqb miss 0) at miss) miss
-
 abbrev pub key_of : ℕ → Row → ℕ → ℕ
 key_of p r due = cond (eqb p 1) r.priority (cond (eqb p 2) r.period (cond (eqb p 3) r.deadline due))
 

@@ -1,6 +1,6 @@
--- Laws of this crate's loops and of the order of its checks.
-pub mod Loops
+-- Laws of this crate's pass over the rows, of the order of rows and of checks, and of common multiples.
+pub mod Faults
+pub mod InOrder
 pub mod Multiples
-pub mod Sort
 pub mod OnePass
 pub mod Checked

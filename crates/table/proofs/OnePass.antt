@@ -1,28 +1,29 @@
--- One pass over the rows finds what the row checks find one by one. `Surveying` is the loop of checked: the rows seen pass the
--- checks of a single row, each key seen is marked and was met once, and order, offsets and periods are those of the rows seen. A
--- check that fails in the pass is a fault of the rows (`faulty_row`, `faulty_key`); where the pass ends, there is none
+-- One pass over the rows finds what the row checks find one by one. `Surveying` is the loop of surveyed: the rows seen pass the
+-- checks of a single row, each key seen is marked and was met once, and offsets and periods are those of the rows seen. A check that
+-- fails in the pass is a fault of the rows (`faulty_row`, `faulty_id`, `faulty_priority`); where the pass ends, there is none
 -- (`surveying_done`).
 use mathlib.Core.Path.{◌≡◌, refl, sym, ap, ◌∙◌}
 use mathlib.Core.Logic.{◌≢◌}
-use mathlib.Core.Bool.{Bool, true, false, cond, not, ◌&&◌, ◌||◌}
+use mathlib.Core.Bool.{Bool, true, false, cond, ◌||◌}
 use mathlib.Core.List.{List, [], ◌∷◌, ◌++◌}
+use Rattle.std.specs.Prelude.{None, Some}
 use Prim.Native.Nat.{ℕ, suc, ◌+◌, ◌≤◌, ◌<◌, max}
 use native.Mathlib.Numerals.{add-one}
 use native.Mathlib.Omega.{arith}
-use lib.Dec.{eqb, ltb}
+use lib.Dec.{eqb}
 use lib.ListN.{length, take, drop, get_or, set, replicate, length-set, length-replicate, get_or-replicate, drop_of_length-le}
 use lib.Seq.{take_all, take-suc, drop-cons, split_at, get_or-set_same, get_or-set_other}
-use borrow.Author.Tests.{eq-eqb, ne_eqb, eqb-true, le-leb, lt-leb, le-ltb, ltb-true, not-false}
+use borrow.Author.Tests.{eq-eqb, ne_eqb, le-leb, lt-leb, le-ltb}
 use Rattle.rules.specs.declared.Row.{Row}
-use Rattle.rules.specs.Table.{no_row, insert, sort_into, canonical, omax, hyper}
+use Rattle.rules.specs.Table.{no_row, omax, hyper}
 use Rattle.rules.specs.Sources.{nothing}
-use Rattle.rules.specs.Checks.{id_wrong, time_wrong, priority_wrong, order_wrong, resume_wrong, key, times, fault, smallest, place, found, row_checks, first_fault}
-use Rattle.basics.specs.Cases.{test, clash, eq_case, both_true}
+use Rattle.rules.specs.Checks.{id_wrong, time_wrong, priority_wrong, order_wrong, resume_wrong, key, times}
+use Rattle.rules.specs.Checks.{fault, smallest, place, found, row_checks, first_fault}
+use Rattle.basics.specs.Cases.{clash, eq_case}
 use Rattle.reordering.specs.All.{All, all_at}
 use Rattle.reordering.specs.Passed.{Fine, none_found, fine_row, fine_rows, ids_once, priorities_once}
-use Rattle.table.specs.Tables.{row_wrong, common_of}
+use Rattle.table.specs.Tables.{row_wrong, common_of, survey_of}
 use Rattle.table.proofs.Multiples.{joint, joint_start, joint_next, joint_end}
-use Rattle.table.proofs.Sort.{sort_snoc}
 
 -- THE CHECKS OF A ROW
 
@@ -80,7 +81,8 @@ unfolding smallest
 smallest_zero p P h [] a = refl
 smallest_zero p P h (r ∷ rs) a = rw (h r a.0) (smallest_zero p P h rs a.1)
 
-module _ (rows : List Row) (fine : All Fine rows) (once-id : (x : ℕ) → times 7 x rows ≤ 1) (once-priority : (x : ℕ) → times 10 x rows ≤ 1) where
+module _ (rows : List Row) (fine : All Fine rows)
+    (once-id : (x : ℕ) → times 7 x rows ≤ 1) (once-priority : (x : ℕ) → times 10 x rows ≤ 1) where
   none_at : (n : ℕ) → ((r : Row) → Fine r → fault n rows r ≡ false) → place n rows ≡ 0
   unfolding place
   none_at n h = smallest_zero (fault n rows) Fine h rows fine
@@ -100,9 +102,12 @@ module _ (rows : List Row) (fine : All Fine rows) (once-id : (x : ℕ) → times
 
 -- A KEY IS MARKED WHERE IT WAS MET: n is 7 for ids and 10 for priorities
 
-pub record Marked (n : ℕ) (marks : List ℕ) (seen : List Row) : Type 0 where
+abbrev met_once : Bool → ℕ
+met_once b = cond b 1 0
+
+pub record Marked (n : ℕ) (marks : List Bool) (seen : List Row) : Type 0 where
   pub full : length marks ≡ 256
-  pub met : (x : ℕ) → x < 256 → get_or marks x 0 ≡ times n x seen
+  pub met : (x : ℕ) → x < 256 → met_once (get_or marks x false) ≡ times n x seen
   pub once : (x : ℕ) → times n x seen ≤ 1
 
 times_append : (n x : ℕ) (a b : List Row) → times n x (a ++ b) ≡ times n x a + times n x b
@@ -110,95 +115,76 @@ unfolding times
 times_append n x [] b = omega arith
 times_append n x (w ∷ a) b = omega (arith, times_append n x a b)
 
-marked_start : (n : ℕ) → Marked n (replicate 256 0) []
+marked_start : (n : ℕ) → Marked n (replicate 256 false) []
 unfolding times
-marked_start n = record { full = length-replicate {A = ℕ} 256 0; met = λ x h. get_or-replicate {A = ℕ} 256 x 0 0 h; once = λ x. omega arith }
+marked_start n = record {
+  full = length-replicate {A = Bool} 256 false;
+  met = λ x h. ap met_once (get_or-replicate {A = Bool} 256 x false false h);
+  once = λ x. omega arith;
+}
 
-module _ (n : ℕ) (marks : List ℕ) (seen : List Row) (so : Marked n marks seen) (w : Row) (low : key n w < 256) where
-  met_twice : get_or marks (key n w) 0 ≢ 0 → (rest : List Row) → 2 ≤ times n (key n w) (seen ++ w ∷ rest)
+module _ (n : ℕ) (marks : List Bool) (seen : List Row) (so : Marked n marks seen) (w : Row) (low : key n w < 256) where
+  self : met_once (eqb (key n w) (key n w)) ≡ 1
+  self = rw (eq-eqb (key n w) (key n w) refl)
+
+  met_twice : get_or marks (key n w) false ≡ true → (rest : List Row) → 2 ≤ times n (key n w) (seen ++ w ∷ rest)
   unfolding times
   met_twice h rest =
-      let self : ◌≡◌ {A = ℕ} (cond (eqb (key n w) (key n w)) 1 0) 1 = rw (eq-eqb (key n w) (key n w) refl) in
-      let some : times n (key n w) seen ≢ 0 = λ z. h (so.met (key n w) low ∙ z) in
+      let some : 1 ≡ times n (key n w) seen = rw h at (so.met (key n w) low) in
       omega (arith, times_append n (key n w) seen (w ∷ rest), self, some)
 
-  marked_turn : get_or marks (key n w) 0 ≡ 0 → Marked n (set marks (key n w) 1) (seen ++ (w ∷ []))
+  marked_turn : get_or marks (key n w) false ≡ false → Marked n (set marks (key n w) true) (seen ++ (w ∷ []))
   unfolding times
   marked_turn free =
-      let none : times n (key n w) seen ≡ 0 = sym (so.met (key n w) low) ∙ free in
+      let none : 0 ≡ times n (key n w) seen = rw free at (so.met (key n w) low) in
       let long : key n w < length marks = omega (arith, so.full) in
-      let self : ◌≡◌ {A = ℕ} (cond (eqb (key n w) (key n w)) 1 0) 1 = rw (eq-eqb (key n w) (key n w) refl) in
-      let other : (x : ℕ) → x ≢ key n w → ◌≡◌ {A = ℕ} (cond (eqb (key n w) x) 1 0) 0 = λ x q. rw (ne_eqb (key n w) x (λ e. q (sym e))) in
+      let other : (x : ℕ) → x ≢ key n w → met_once (eqb (key n w) x) ≡ 0 = λ x q. rw (ne_eqb (key n w) x (λ e. q (sym e))) in
       record {
-        full = length-set marks (key n w) 1 ∙ so.full;
+        full = length-set marks (key n w) true ∙ so.full;
         met = λ x h. eq_case x (key n w)
-            (λ q. rw q (omega (arith, get_or-set_same marks (key n w) 1 0 long, times_append n (key n w) seen (w ∷ []), none, self)))
-            (λ q. omega (arith, get_or-set_other marks (key n w) x 1 0 q, so.met x h, times_append n x seen (w ∷ []), other x q));
+            (λ q. let same = get_or-set_same marks (key n w) true false long in
+            rw q (omega (arith, ap met_once same, times_append n (key n w) seen (w ∷ []), none, self)))
+            (λ q. let same = get_or-set_other marks (key n w) x true false q in
+            omega (arith, ap met_once same, so.met x h, times_append n x seen (w ∷ []), other x q));
         once = λ x. eq_case x (key n w)
             (λ q. rw q (omega (arith, times_append n (key n w) seen (w ∷ []), none, self)))
             (λ q. omega (arith, so.once x, times_append n x seen (w ∷ []), other x q));
       }
 
--- IN ASCENDING ID
+-- THE PASS, i rows seen
 
-insert_last : (x : Row) (l : List Row) → All (λ s. s.id ≤ x.id) l → insert x l ≡ l ++ (x ∷ [])
-unfolding insert
-insert_last x [] a = refl
-insert_last x (s ∷ l) a = rw (le-ltb x.id s.id a.0) (ap (λ (k : List Row). s ∷ k) (insert_last x l a.1))
+pub record Surveying (rows : List Row) (ids priorities : List Bool) (m h i : ℕ) : Type 0 where
+  pub fine : All Fine (take i rows)
+  pub id_marks : Marked 7 ids (take i rows)
+  pub priority_marks : Marked 10 priorities (take i rows)
+  pub offsets : max m (omax (drop i rows)) ≡ omax rows
+  pub periods : (0 < h) × (h ≤ 100001) × (hyper rows ≡ joint h (drop i rows))
 
-all_map : (P Q : Row → Type 0) → ((r : Row) → P r → Q r) → (l : List Row) → All P l → All Q l
-all_map P Q h [] a = tt
-all_map P Q h (r ∷ l) a = (h r a.0, all_map P Q h l a.1)
+pub surveying_start : (rows : List Row) → Surveying rows (replicate 256 false) (replicate 256 false) 0 1 0
+surveying_start rows =
+    record {
+      fine = tt;
+      id_marks = marked_start 7;
+      priority_marks = marked_start 10;
+      offsets = omega arith;
+      periods = (omega arith, omega arith, joint_start rows);
+    }
 
 all_snoc : (P : Row → Type 0) (l : List Row) (w : Row) → All P l → P w → All P (l ++ (w ∷ []))
 all_snoc P [] w a b = (b, tt)
 all_snoc P (r ∷ l) w a b = (a.0, all_snoc P l w a.1 b)
 
--- the rows seen are in ascending id, and the last id is the largest
-abbrev pub Rising : Bool → ℕ → List Row → Type 0
-Rising ascending top seen = ascending ≡ true → (canonical seen ≡ seen) × All (λ s. s.id ≤ top) seen
-
-module _ (ascending : Bool) (top : ℕ) (seen : List Row) (so : Rising ascending top seen) (w : Row) where
-  rising_turn : (b : Bool) → b ≡ cond (ltb top w.id) ascending false → Rising b w.id (seen ++ (w ∷ []))
-  rising_turn b e up = test (ltb top w.id)
-      (λ h. let k = so (sym (e ∙ rw h) ∙ up) in
-      let below = all_map (λ s. s.id ≤ top) (λ s. s.id ≤ w.id) (λ s g. omega (arith, ltb-true top w.id h)) seen k.1 in
-      let last : insert w (canonical seen) ≡ seen ++ (w ∷ []) = rw k.0 (insert_last w seen below) in
-      (sort_snoc seen [] w ∙ last, all_snoc (λ s. s.id ≤ w.id) seen w below (omega arith)))
-      (λ h. clash up (e ∙ rw h))
-
--- THE PASS, i rows seen
-
-pub record Surveying (rows : List Row) (ids priorities : List ℕ) (ascending : Bool) (top m h i : ℕ) : Type 0 where
-  pub place : i ≤ length rows
-  pub fine : All Fine (take i rows)
-  pub id_marks : Marked 7 ids (take i rows)
-  pub priority_marks : Marked 10 priorities (take i rows)
-  pub order : Rising ascending top (take i rows)
-  pub offsets : max m (omax (drop i rows)) ≡ omax rows
-  pub periods : (0 < h) × (h ≤ 100001) × (hyper rows ≡ joint h (drop i rows))
-
-pub surveying_start : (rows : List Row) → Surveying rows (replicate 256 0) (replicate 256 0) true 0 0 1 0
-unfolding sort_into
-surveying_start rows =
-    record {
-      place = omega arith;
-      fine = tt;
-      id_marks = marked_start 7;
-      priority_marks = marked_start 10;
-      order = λ e. (refl, tt);
-      offsets = omega arith;
-      periods = (omega arith, omega arith, joint_start rows);
-    }
-
 -- the row in hand is w, at place i
-module _ {rows : List Row} {ids priorities : List ℕ} {ascending : Bool} {top m h i : ℕ} (so : Surveying rows ids priorities ascending top m h i) (low : i < length rows)
+module _ {rows : List Row} {ids priorities : List Bool} {m h i : ℕ} (so : Surveying rows ids priorities m h i) (low : i < length rows)
     (w : Row) (here : w ≡ get_or rows i no_row) where
   whole_is : rows ≡ take i rows ++ w ∷ drop (suc i) rows
   whole_is = rw here (split_at rows i no_row low)
 
   pub faulty_row : row_wrong w ≡ true → (first_fault row_checks rows).number ≢ 0
   faulty_row e z = clash e (row_right w (rw here (all_at Fine rows (fine_rows rows (none_found row_checks rows refl z)) i low)))
+
+  twice : (n x : ℕ) → 2 ≤ times n x (take i rows ++ w ∷ drop (suc i) rows) → times n x rows ≤ 1 → ⊥
+  twice n x g k = omega (arith, g, k, ap (times n x) whole_is)
 
   module _ (fine : Fine w) where
     id_low : w.id < 256
@@ -207,51 +193,42 @@ module _ {rows : List Row} {ids priorities : List ℕ} {ascending : Bool} {top m
     priority_low : w.priority < 256
     priority_low = omega (arith, fine.priority_high)
 
-    pub faulty_key : not (eqb (get_or ids w.id 0) 0 && eqb (get_or priorities w.priority 0) 0) ≡ true → (first_fault row_checks rows).number ≢ 0
-    faulty_key e z = eq_case (get_or ids w.id 0) 0
-        (λ a. eq_case (get_or priorities w.priority 0) 0
-        (λ b. clash e (rw (a, b)))
-        (λ b. twice 10 w.priority (met_twice 10 priorities (take i rows) so.priority_marks w priority_low b (drop (suc i) rows)) (priorities_once rows (none_found row_checks rows refl z) w.priority)))
-        (λ a. twice 7 w.id (met_twice 7 ids (take i rows) so.id_marks w id_low a (drop (suc i) rows)) (ids_once rows (none_found row_checks rows refl z) w.id))
-      where
-        twice : (n x : ℕ) → 2 ≤ times n x (take i rows ++ w ∷ drop (suc i) rows) → times n x rows ≤ 1 → ⊥
-        twice n x g k = omega (arith, g, k, ap (times n x) whole_is)
+    pub faulty_id : get_or ids w.id false ≡ true → (first_fault row_checks rows).number ≢ 0
+    faulty_id e z = twice 7 w.id (met_twice 7 ids (take i rows) so.id_marks w id_low e (drop (suc i) rows))
+        (ids_once rows (none_found row_checks rows refl z) w.id)
 
-    pub surveying_turn : not (eqb (get_or ids w.id 0) 0 && eqb (get_or priorities w.priority 0) 0) ≡ false
-        → (b : Bool) → b ≡ cond (ltb top w.id) ascending false → (n : ℕ) → n ≡ max m w.offset → (l : ℕ) → l ≡ common_of h w.period
-        → Surveying rows (set ids w.id 1) (set priorities w.priority 1) b w.id n l (i + 1)
+    pub faulty_priority : get_or priorities w.priority false ≡ true → (first_fault row_checks rows).number ≢ 0
+    faulty_priority e z = twice 10 w.priority (met_twice 10 priorities (take i rows) so.priority_marks w priority_low e (drop (suc i) rows))
+        (priorities_once rows (none_found row_checks rows refl z) w.priority)
+
+    pub surveying_turn : get_or ids w.id false ≡ false → get_or priorities w.priority false ≡ false
+        → (n l : ℕ) → n ≡ max m w.offset → l ≡ common_of h w.period
+        → Surveying rows (set ids w.id true) (set priorities w.priority true) n l (i + 1)
     unfolding omax
-    surveying_turn free b eb n en l el =
-        let none = both_true (eqb (get_or ids w.id 0) 0) (eqb (get_or priorities w.priority 0) 0) (not-false _ free) in
+    surveying_turn a b n l en el =
         let front : take (i + 1) rows ≡ take i rows ++ (w ∷ []) = rw (add-one i, here) (take-suc rows i no_row low) in
         let back : drop i rows ≡ w ∷ drop (i + 1) rows = rw (add-one i, here) (drop-cons rows i no_row low) in
         let joined = joint_next h l w (drop (i + 1) rows) so.periods.0 el in
         record {
-          place = omega arith;
           fine = rw front (all_snoc Fine (take i rows) w so.fine fine);
-          id_marks = rw front (marked_turn 7 ids (take i rows) so.id_marks w id_low (eqb-true _ _ none.0));
-          priority_marks = rw front (marked_turn 10 priorities (take i rows) so.priority_marks w priority_low (eqb-true _ _ none.1));
-          order = rw front (rising_turn ascending top (take i rows) so.order w b eb);
+          id_marks = rw front (marked_turn 7 ids (take i rows) so.id_marks w id_low a);
+          priority_marks = rw front (marked_turn 10 priorities (take i rows) so.priority_marks w priority_low b);
           offsets = omega (arith, so.offsets, en, ap omax back);
           periods = (joined.0, joined.1, so.periods.2 ∙ ap (joint h) back ∙ joined.2);
         }
 
--- what the pass has found where no row check fails
-pub record Surveyed (rows : List Row) (ascending : Bool) (m h : ℕ) : Type 0 where
-  pub faultless : first_fault row_checks rows ≡ nothing
-  pub order : ascending ≡ true → canonical rows ≡ rows
-  pub offsets : m ≡ omax rows
-  pub periods : h ≡ hyper rows
+-- what the pass gives: nothing where a row check fails, and what the table says where none does
+pub survey_none : (rows : List Row) → (first_fault row_checks rows).number ≢ 0 → None ≡ survey_of rows
+survey_none rows some = rw (ne_eqb (first_fault row_checks rows).number 0 some)
 
-module _ {rows : List Row} {ids priorities : List ℕ} {ascending : Bool} {top m h i : ℕ} (so : Surveying rows ids priorities ascending top m h i) (end : length rows ≤ i) where
-  pub surveying_done : Surveyed rows ascending m h
+module _ {rows : List Row} {ids priorities : List Bool} {m h i : ℕ} (so : Surveying rows ids priorities m h i) (end : length rows ≤ i) where
+  pub surveying_done : Some (record { omax = m; hyper = h }) ≡ survey_of rows
   unfolding omax
   surveying_done =
       let all : take i rows ≡ rows = take_all i rows end in
       let none : drop i rows ≡ [] = drop_of_length-le rows end in
-      record {
-        faultless = no_fault rows (rw all at so.fine) (λ x. omega (arith, so.id_marks.once x, ap (times 7 x) all)) (λ x. omega (arith, so.priority_marks.once x, ap (times 10 x) all));
-        order = λ a. rw all at (so.order a).0;
-        offsets = omega (arith, so.offsets, ap omax none);
-        periods = joint_end h so.periods.0 so.periods.1 ∙ sym (so.periods.2 ∙ ap (joint h) none);
-      }
+      let faultless = no_fault rows (rw all at so.fine) (λ x. omega (arith, so.id_marks.once x, ap (times 7 x) all))
+      (λ x. omega (arith, so.priority_marks.once x, ap (times 10 x) all)) in
+      let offsets : m ≡ omax rows = omega (arith, so.offsets, ap omax none) in
+      let periods : h ≡ hyper rows = joint_end h so.periods.0 so.periods.1 ∙ sym (so.periods.2 ∙ ap (joint h) none) in
+      rw (faultless, offsets, periods)

@@ -19,27 +19,14 @@ fn divisor(h: u32, p: u32) -> u32
     a
 }
 
-// The least common multiple, if it is at most 100,000; else 100,001.
-#[tactic(auto, using(crate::proofs::Multiples::quotient_found, crate::proofs::Multiples::quotient_none))]
-fn multiple(h: u32, p: u32) -> u32
-    requires { (0 < h) × (0 < p) × (h * p ≤ 4294967295) }
-    ensures { result ≡ common_of h p }
-{
-    let g = divisor(h, p);
-    let m = h / g * p;
-    if m <= Table::MAX_H {
-        return m;
-    }
-    Table::MAX_H + 1
-}
-
-// The same with the larger one first: there is a remainder less to take.
+// The least common multiple, if it is at most 100,000; else 100,001. Its divisor is taken with the larger one first: there is a
+// remainder less to take.
+#[tactic(auto, using(crate::proofs::Multiples::multiples))]
 pub fn common(h: u32, p: u32) -> u32
     requires { (0 < h) × (0 < p) × (h * p ≤ 4294967295) }
     ensures { result ≡ common_of h p }
 {
-    if h < p {
-        return multiple(p, h);
-    }
-    multiple(h, p)
+    let g = divisor(h.max(p), h.min(p));
+    let m = h / g * p;
+    m.min(Table::MAX_H + 1)
 }

@@ -8,10 +8,7 @@ use rules::{Row, Table};
 pub fn from_one(x: u32, hi: u32) -> bool
     ensures { result ≡ within 1 hi x }
 {
-    if x < 1 {
-        return false;
-    }
-    x <= hi
+    (1..=hi).contains(&x)
 }
 
 pub fn id_wrong(r: Row) -> bool
@@ -23,25 +20,12 @@ pub fn id_wrong(r: Row) -> bool
 pub fn time_wrong(r: Row) -> bool
     ensures { result ≡ time_wrong r }
 {
-    if Table::MAX_TIME < r.offset {
-        return true;
-    }
-    if !from_one(r.wcet, Table::MAX_TIME) {
-        return true;
-    }
-    if !from_one(r.deadline, Table::MAX_TIME) {
-        return true;
-    }
-    if !from_one(r.period, Table::MAX_TIME) {
-        return true;
-    }
-    if Table::MAX_TIME < r.start {
-        return true;
-    }
-    if Table::MAX_TIME < r.resume {
-        return true;
-    }
-    false
+    Table::MAX_TIME < r.offset
+        || !from_one(r.wcet, Table::MAX_TIME)
+        || !from_one(r.deadline, Table::MAX_TIME)
+        || !from_one(r.period, Table::MAX_TIME)
+        || Table::MAX_TIME < r.start
+        || Table::MAX_TIME < r.resume
 }
 
 pub fn priority_wrong(r: Row) -> bool
@@ -53,13 +37,7 @@ pub fn priority_wrong(r: Row) -> bool
 pub fn order_wrong(r: Row) -> bool
     ensures { result ≡ order_wrong r }
 {
-    if r.deadline < r.wcet {
-        return true;
-    }
-    if r.period < r.deadline {
-        return true;
-    }
-    false
+    r.deadline < r.wcet || r.period < r.deadline
 }
 
 pub fn resume_wrong(r: Row) -> bool

@@ -5,28 +5,33 @@
 
 ghost use Rattle.std.specs.Prelude.{◌≡◌};
 
+use rules::Table;
 use std::io;
+
+// One byte over the longest text, which is all that tells.
+const MOST_READ: usize = Table::MAX_TEXT + 1;
+
+// The bytes that the four lines are lent.
+const MOST_WRITTEN: usize = 292;
 
 // Hands on what came of a step, and where that is an error says so before.
 fn told<T>(rt: &impl Eprint, came: io::Result<T>, failure: &str) -> io::Result<T>
     ensures { result ≡ came }
 {
-    if came.is_err() {
+    came.inspect_err(|_| {
         // The error is handed on whether or not it can be said.
         let _ = eprintln!(rt; "tablecheck: {failure}");
-    }
-    came
+    })
 }
 
 fn main(rt: HostRuntime) -> io::Result<()> {
-    // One byte over the longest text, which is all that tells.
-    let mut text = [0u8; 4097];
+    let mut text = [0u8; MOST_READ];
     let n = told(
         &rt,
         input::read_full(rt.reader(), &mut text),
         "standard input cannot be read",
     )?;
-    let mut lines = [0u8; 292];
+    let mut lines = [0u8; MOST_WRITTEN];
     let m = report::report(&text[..n], &mut lines);
     told(
         &rt,

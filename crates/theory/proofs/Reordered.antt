@@ -1,14 +1,12 @@
 -- Sources that are read as the same table get the same replies: a reply to the one is a reply to the other (`verdict_to` and so on),
 -- and two replies that meet a contract are equal, with what they leave in lent memory (`verdict_same` and so on). With `perm_alike` this
 -- is "Reordering the rows changes no reply", of whatever was read; `Texts` has it of texts.
-use Rattle.std.specs.Prelude.{◌≡◌, List, ◌++◌, map, ℕ, length, drop}
+use Rattle.std.specs.Prelude.{◌≡◌, List, ◌++◌, map, ℕ, length, drop, Result, Ok}
 use Rattle.std.proofs.Common.{sym, ap, subst, ◌∙◌}
 use Rattle.rules.specs.declared.Row.{Row}
 use Rattle.rules.specs.declared.Refusal.{Refusal}
 use Rattle.rules.specs.declared.Verdict.{Verdict}
 use Rattle.rules.specs.declared.ScheduleReply.{ScheduleReply}
-use Rattle.rules.specs.declared.WriteReply.{WriteReply}
-use Rattle.rules.specs.declared.WriteReply.TheVariants.{Written}
 use Rattle.rules.specs.Table.{omax, hyper}
 use Rattle.rules.specs.Sources.{Source}
 use Rattle.rules.specs.Checks.{check, refusal_of, policy_wrong, too_few, slots_wrong, slots_refusal, ids_refusal}
@@ -69,15 +67,17 @@ module _ (s t : Source) (alike : Alike s t) where
   schedule_to = slots_to stated
 
   -- ids, of as many rows as there are tasks
-  pub ids_to : (before after : List ℕ) (r : WriteReply) → IdsAre s before after r → IdsAre t before after r
+  pub ids_to : (before after : List ℕ) (r : Result ℕ Refusal) → IdsAre s before after r → IdsAre t before after r
   ids_to before after r u =
       subst (λ (g : Refusal). Puts (check 2 (too_few (length before)) g) (length t.rows) (ids_of t) before after r) alike.refusal (record {
         refused = u.refused;
         written = λ e.
             let same = alike.tasks (check_none 1 (too_few (length before)) (refusal_of s) e).1 in
-            let rows : length s.rows ≡ length t.rows = sym (canonical_length s.rows) ∙ ap (λ (ws : List Row). length ws) same ∙ canonical_length t.rows in
-            subst (λ (n : ℕ). (r ≡ Written n) × (after ≡ ids_of t ++ drop (length (ids_of t)) before)) rows
-            (subst (λ (ws : List Row). (r ≡ Written (length s.rows)) × (after ≡ map (λ (w : Row). w.id) ws ++ drop (length (map (λ (w : Row). w.id) ws)) before)) same (u.written e));
+            let ids : List Row → List ℕ = λ ws. map (λ (w : Row). w.id) ws in
+            let rows : length s.rows ≡ length t.rows =
+            sym (canonical_length s.rows) ∙ ap (λ (ws : List Row). length ws) same ∙ canonical_length t.rows in
+            subst (λ (n : ℕ). (r ≡ Ok n) × (after ≡ ids_of t ++ drop (length (ids_of t)) before)) rows
+            (subst (λ (ws : List Row). (r ≡ Ok (length s.rows)) × (after ≡ ids ws ++ drop (length (ids ws)) before)) same (u.written e));
       })
 
   -- SO THE REPLIES ARE EQUAL, with what they leave in lent memory
@@ -93,5 +93,5 @@ module _ (s t : Source) (alike : Alike s t) where
   pub as_run_same : (xs zs : List ℕ) (p : ℕ) (before x z : List ℕ) (r q : ScheduleReply) → AsRunIs p s xs zs before x r → AsRunIs p t xs zs before z q → (r ≡ q) × (x ≡ z)
   as_run_same xs zs p before x z r q u v = writes_one _ (system_of p t) (listed (system_of p t) xs zs) before x z r q (as_run_to xs zs p before x r u) v
 
-  pub ids_same : (before x z : List ℕ) (r q : WriteReply) → IdsAre s before x r → IdsAre t before z q → (r ≡ q) × (x ≡ z)
+  pub ids_same : (before x z : List ℕ) (r q : Result ℕ Refusal) → IdsAre s before x r → IdsAre t before z q → (r ≡ q) × (x ≡ z)
   ids_same before x z r q u v = puts_one (ids_refusal (length before) t) (length t.rows) (ids_of t) before x z r q (ids_to before x r u) v

@@ -1,10 +1,10 @@
 -- "Reordering the rows changes no reply on a table whose lines are well formed", of texts: each theorem is that of the sources which the
 -- texts are.
-use Rattle.std.specs.Prelude.{◌≡◌, refl, List, ℕ, ◌≤◌, length}
+use Rattle.std.specs.Prelude.{◌≡◌, refl, List, ℕ, ◌≤◌, length, Result}
 use Rattle.std.proofs.Common.{le-leb}
 use Rattle.rules.specs.declared.Verdict.{Verdict}
+use Rattle.rules.specs.declared.Refusal.{Refusal}
 use Rattle.rules.specs.declared.ScheduleReply.{ScheduleReply}
-use Rattle.rules.specs.declared.WriteReply.{WriteReply}
 use Rattle.rules.specs.Text.{bad_line, rows_of}
 use Rattle.rules.specs.Sources.{given, text_source}
 use Rattle.rules.specs.Verdicts.{VerdictIs, ResponsesAre}
@@ -38,5 +38,6 @@ module _ (s t : List ℕ) (short : length s ≤ 4096) (also : length t ≤ 4096)
       → AsRunIs p (text_source s) xs zs before x r → AsRunIs p (text_source t) xs zs before z q → (r ≡ q) × (x ≡ z)
   as_run_order = as_run_same (text_source s) (text_source t) alike
 
-  pub ids_order : (before x z : List ℕ) (r q : WriteReply) → IdsAre (text_source s) before x r → IdsAre (text_source t) before z q → (r ≡ q) × (x ≡ z)
+  pub ids_order : (before x z : List ℕ) (r q : Result ℕ Refusal)
+      → IdsAre (text_source s) before x r → IdsAre (text_source t) before z q → (r ≡ q) × (x ≡ z)
   ids_order = ids_same (text_source s) (text_source t) alike

@@ -1,10 +1,16 @@
--- `responses` is that of the source which the text is.
-use Rattle.rules.specs.Sources.{text_source, read_of, source_of}
-use Rattle.reordering.specs.Alike.{read_alike}
-use Rattle.theory.proofs.Reordered.{responses_to}
+-- `responses`: where it is accepted, the worst responses stand in the lent numbers.
+use Rattle.std.proofs.Common.{rules, ◌≡◌, ◌≤◌, ap, ◌++◌, drop, length}
+use Rattle.checker.proofs.Replied.{decided, accepted_leaves}
 use Rattle.checker.proofs.responses.Goals as goal
 
-pub returns : goal.returns
-returns c =
-    let s = text_source c.args.text.now in
-    responses_to (source_of (read_of s)) s (read_alike s) c.args.policy c.args.allowance c.args.numbers.now _ _ (rw c.read_rows.ensures at c.responses_of.ensures)
+pub returns-in-Accepted : goal.returns-in-Accepted
+returns-in-Accepted g c =
+    let passes = rw (c.in-Ok.is, c.too_few.ensures) at c.checked.ensures in
+    let sixteen : length c.decide-o.result.worst ≡ 16 = search rules in
+    let few : c.in-Ok.t.count ≤ 16 = search rules in
+    let room : c.in-Ok.t.count ≤ length c.args.numbers.now = search rules in
+    let front = ap (λ l. l ++ drop c.in-Ok.t.count c.args.numbers.now) c.copy_from_slice.ensures.after in
+    record {
+      reply = decided passes c.decide-o.ensures;
+      buffer = accepted_leaves passes c.decide-o.ensures _ room sixteen few c.in-Accepted.is front;
+    }

@@ -1,16 +1,14 @@
--- `table_csv::run` meets its contract by the laws of its loop.
-use Rattle.std.proofs.Common.{arith}
-use Rattle.table_csv.proofs.Fields.{run_low, run_high, run_more, run_end}
+-- `table_csv::run` stops at the first byte that is no digit, or at the end.
+use Rattle.std.proofs.Common.{sym, arith}
+use Rattle.table_csv.proofs.Fields.{digits_none, digits_more, digits_end}
 use Rattle.table_csv.proofs.run.Goals as goal
 
-pub returns-then-b-lt48 : goal.returns-then-b-lt48
-returns-then-b-lt48 c = run_low _ _ c.loop-i-test.true c.loop-i.invariant.1 c.if-b-lt48.true
-
-pub returns-then-b-gt57 : goal.returns-then-b-gt57
-returns-then-b-gt57 c = run_high _ _ c.loop-i-test.true c.loop-i.invariant.1 c.if-b-lt48.false c.if-b-gt57.true
+pub returns-then-not-is_ascii_digit : goal.returns-then-not-is_ascii_digit
+returns-then-not-is_ascii_digit c =
+    omega (arith, digits_none _ _ c.loop-i-test.true (sym c.if-not-is_ascii_digit.ensures.value), c.loop-i.invariant)
 
 pub loop-i-preserved : goal.loop-i-preserved
-loop-i-preserved c = (omega arith, run_more _ _ c.loop-i-test.true c.loop-i.invariant.1 c.if-b-lt48.false c.if-b-gt57.false)
+loop-i-preserved c = omega (arith, digits_more _ _ c.loop-i-test.true (sym c.if-not-is_ascii_digit.ensures.value), c.loop-i.invariant)
 
 pub returns : goal.returns
-returns c = run_end _ _ c.loop-i-test.false c.loop-i.invariant.1 c.loop-i.invariant.0
+returns c = omega (arith, digits_end c.args.text.now _ c.loop-i-test.false, c.loop-i.invariant)

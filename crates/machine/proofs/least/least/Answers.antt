@@ -1,5 +1,7 @@
 -- Rests on `least_more`, four times a turn.
-use Rattle.std.proofs.Common.{◌≡◌, List, ℕ, suc, ◌+◌, ◌*◌, ◌<◌, min, length, get_or, arith}
+use Rattle.std.proofs.Common.{◌≡◌, refl, ◌∙◌, List, [], ℕ, zero, suc, ◌+◌, ◌*◌, ◌/◌, ◌<◌, min, length, get_or, drop, arith}
+use Rattle.std.proofs.Math.Seq.{get_or-take, get_or-drop}
+use Rattle.std.specs.Simd.{first_chunks}
 use Rattle.basics.specs.Lists.{any_default}
 use Rattle.slots.specs.Jobs.{never}
 use Rattle.machine.specs.Least.{Least}
@@ -23,19 +25,29 @@ four n l m h =
     rw (one_by_one m (get_or l n never) (get_or l (n + 1) never) (get_or l (n + 2) never) (get_or l (n + 3) never), b, c, d, e)
     (least_more _ l _ (least_more _ l _ (least_more _ l _ (least_more n l m h))))
 
--- a place as the code reads it
-inside : (l : List ℕ) → length l ≡ 16 → (i : ℕ) → i < 16 → get_or l i 0 ≡ get_or l i never
-inside l full i h = any_default l i 0 never (omega arith)
+-- a place of a block
+in_block : (k : ℕ) (l : List ℕ) (j i d : ℕ) → j < k → i < 4 → get_or (get_or (first_chunks 4 k l) j []) i d ≡ get_or l (4 * j + i) d
+in_block zero l j i d h g = absurd (omega arith)
+in_block (suc k) l zero i d h g = let e : 4 * 0 + i ≡ i = omega arith in rw e (get_or-take 4 l i d g)
+in_block (suc k) l (suc j) i d h g =
+    let e : 4 * suc j + i ≡ 4 + (4 * j + i) = omega arith in
+    rw e (in_block k (drop 4 l) j i d (omega arith) g ∙ get_or-drop 4 l (4 * j + i) d)
 
-pub loop-j-preserved : goal.loop-j-preserved
-loop-j-preserved c =
-    let at = c.loop-j in
+-- as the code reads it
+reads : (l : List ℕ) (blocks : List (List ℕ)) → blocks ≡ first_chunks 4 (length l / 4) l → (j i x : ℕ) → j < length l / 4 → i < 4 → x ≡ 4 * j + i
+    → get_or (get_or blocks j []) i 0 ≡ get_or l x never
+reads l blocks e j i x h g q = rw (e, q) (in_block (length l / 4) l j i 0 h g ∙ any_default l (4 * j + i) 0 never (omega arith))
+
+pub loop-four-preserved : goal.loop-four-preserved
+loop-four-preserved c =
+    let at = c.loop-four in
     let a = c.args.a.now in
-    let turn : 4 * (at.j + 1) ≡ 4 * at.j + 4 = omega arith in
-    let read = inside a c.requires.1 in
-    record {
-      low = omega arith;
-      least =
-          rw (turn, c.sooner-m.ensures, c.sooner.ensures, c.sooner-y.ensures, c.sooner-x.ensures, read (4 * at.j) (omega arith), read (4 * at.j + 1) (omega arith), read (4 * at.j + 2) (omega arith), read (4 * at.j + 3) (omega arith))
-          (four (4 * at.j) a at.m at.invariant.least);
-    }
+    let turn : 4 * (at.four-index + 1) ≡ 4 * at.four-index + 4 = omega arith in
+    let low : at.four-index < length a / 4 = omega (arith, c.loop-four-test.true, c.as_chunks.ensures.front_len) in
+    let read = reads a _ c.as_chunks.ensures.front at.four-index in
+    let first = read 0 (4 * at.four-index) low (omega arith) (omega arith) in
+    let second = read 1 _ low (omega arith) refl in
+    let third = read 2 _ low (omega arith) refl in
+    let fourth = read 3 _ low (omega arith) refl in
+    rw (turn, c.min-m.ensures, c.min.ensures, c.min-y.ensures, c.min-x.ensures, first, second, third, fourth)
+    (four (4 * at.four-index) a at.m at.invariant)

@@ -1,20 +1,15 @@
 -- `table::fault::first_fault` meets its contract by the laws of its loop.
-use Rattle.std.proofs.Common.{refl, arith}
-use Rattle.rules.specs.Checks.{row_checks}
-use Rattle.table.proofs.Loops.{rowwise, fault_stop, fault_next, fault_none}
+use Rattle.std.proofs.Common.{◌∙◌, sym}
+use Rattle.table.proofs.Faults.{fault_none, fault_stop, fault_next}
 use Rattle.table.proofs.fault.first_fault.Goals as goal
 
-pub returns-then-p-ne0 : goal.returns-then-p-ne0
-unfolding rowwise
-returns-then-p-ne0 c =
-    fault_stop _ row_checks refl c.loop-at.at _ c.loop-at-test.true c.loop-at.invariant.passed c.place_of-p.ensures c.if-p-ne0.true
+pub returns-in-Some : goal.returns-in-Some
+returns-in-Some c = fault_stop _ _ c.loop-check.check-index c.loop-check-test.true _ c.loop-check.invariant _ _ c.number.ensures
+    (sym c.in-Some.is ∙ c.place.ensures)
 
-pub loop-at-preserved : goal.loop-at-preserved
-unfolding rowwise
-loop-at-preserved c = record {
-  within = omega arith;
-  passed = fault_next _ row_checks refl c.loop-at.at _ c.loop-at-test.true c.loop-at.invariant.passed c.place_of-p.ensures c.if-p-ne0.false;
-}
+pub loop-check-preserved : goal.loop-check-preserved
+loop-check-preserved c = fault_next _ _ c.loop-check.check-index c.loop-check-test.true _ c.loop-check.invariant
+    (sym c.in_default.is ∙ c.place.ensures)
 
 pub returns : goal.returns
-returns c = fault_none _ row_checks c.loop-at.at c.loop-at-test.false c.loop-at.invariant.passed
+returns c = fault_none _ _ c.loop-check.check-index c.loop-check-test.false c.loop-check.invariant
