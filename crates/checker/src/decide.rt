@@ -8,7 +8,8 @@ use rules::{Table, Verdict};
 // 2^48 slots always decide: a larger allowance decides no more, and times stay small numbers.
 const ENOUGH: u64 = 281_474_976_710_656;
 
-// The verdict, and the longest responses up to it.
+// The verdict, and the longest responses up to it, which are read where it is accepted: as an Option they would be matched once more
+// beside the verdict.
 #[derive(Clone, Copy)]
 pub struct Outcome {
     pub verdict: Verdict,

@@ -45,7 +45,8 @@ fn overdue(due: &[u64], time: u64) -> Option<usize>
 
 // The run up to `end`: it stops before at a miss; and, where a first mark is given, which is Omax then, at a mark with the state of
 // the mark before. Deadlines are tested first, and a mark's state is that before jobs join. The two lists are two slices, as C lends them;
-// NEVER for the first mark is none, since a mark is compared with the time at each turn.
+// NEVER for the first mark is none, since a mark is compared with the time at each turn. Each end makes its Stop by itself: where branches
+// join, a proof forgets what each of them knew.
 pub fn run(
     t: &Table,
     policy: u32,

@@ -5,6 +5,7 @@ ghost use Rattle.machine.specs.Machine.{Again};
 
 use rules::{Executed, Loading};
 
+// One place for each row, in memory of a fixed size; last is 0 for none, as in the state.
 #[derive(Clone, Copy)]
 pub struct Mark {
     pub executed: [Executed; 16],

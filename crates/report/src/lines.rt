@@ -1,4 +1,5 @@
-// Lines as they are put together, in memory of a fixed size: a contract sees the bytes so far.
+// Lines as they are put together, in memory of a fixed size: a contract sees the bytes so far. Not by `write!`, of which the library does not
+// say when it succeeds.
 ghost use Rattle.std.specs.Prelude.{◌≡◌, ℕ, ◌++◌, ◌+◌, ◌≤◌, List, [], length, take};
 ghost use Rattle.report.specs.Lines.{decimal};
 

@@ -4,7 +4,7 @@ ghost use Rattle.table.specs.Tables.{Divisor, common_of};
 
 use rules::Table;
 
-// The greatest common divisor, by remainders.
+// The greatest common divisor, by remainders until none is left: no index is counted.
 fn divisor(h: u32, p: u32) -> u32
     requires { (0 < h) × (0 < p) }
     ensures { Divisor h p result }

@@ -118,7 +118,8 @@ fn reach<'a>(text: &'a [u8], d: &[u8]) -> Option<(Ending, &'a [u8])>
     stop_at(behind)
 }
 
-// The number that at most five digits write. A byte below the digits adds 0, so that nothing is asked of the bytes.
+// The number that at most five digits write. A byte below the digits adds 0, so that nothing is asked of the bytes. A
+// loop, since `fold` asks for its invariant in the contract of a closure.
 fn number_of(ds: &[u8]) -> u32
     requires { length ds.now ≤ 5 }
     ensures { result ≡ number 0 ds.now }
@@ -197,6 +198,7 @@ pub fn read_rows(text: &[u8]) -> Result<RowsRead, Refusal>
         let Some((row, rest)) = read_row(t) else {
             return Err(TextCheck::Line(count as u64 + 2).into());
         };
+        // Not by `get_mut`: a proof knows no element of what it gives.
         if count < Table::MAX_ROWS {
             rows[count] = row;
         }
