@@ -6,10 +6,14 @@ ghost use Rattle.rules.specs.Sources.{text_source};
 ghost use Rattle.boundary.specs.Crossing.{VerdictCrosses, RespondsTo, ResponsesCross, ScheduleCrosses, AsRunCrosses, IdsCross};
 
 use crate::pack::Reply;
-use rules::{Table, Verdict};
+use rules::{Refusal, Verdict};
+use table::TableCheck;
 
 mod little;
 mod pack;
+
+// The bytes that responses are lent: four a number.
+const RESPONSES_LEN: usize = 64;
 
 // Is the table on time under this policy? It spends an allowance of slots.
 #[unsafe(no_mangle)]
@@ -34,16 +38,21 @@ pub extern "C" fn otter_responses(
     respond(policy, allowance, text, responses).pack()
 }
 
-// The checker is lent numbers of our own, as many as there are bytes for, and only where it accepts are bytes written: a contract sees
-// values and not stores, but memory that may not be written to does.
+// Checks 1 and 2 ask for no text, and come before it is read. The checker is lent numbers of our own, and only where it accepts are bytes
+// written: a contract sees values and not stores, but memory that may not be written to does.
 fn respond(policy: u32, allowance: u64, text: &[u8], responses: &mut [u8]) -> Verdict
     ensures { RespondsTo policy allowance (text_source text.now) responses.old responses.new result }
 {
+    if table::policy_wrong(policy) {
+        return Refusal::from(TableCheck::Policy).into();
+    }
+    if responses.len() < RESPONSES_LEN {
+        return Refusal::from(TableCheck::Buffer).into();
+    }
     let source = table_csv::read_rows(text);
     let rows = source.map_or(0, |read| read.count);
     let mut numbers = [0u32; 16];
-    let lent = (responses.len() / little::SIZE).min(Table::MAX_ROWS);
-    let reply = checker::responses(policy, allowance, source, &mut numbers[..lent]);
+    let reply = checker::responses(policy, allowance, source, &mut numbers);
     let held = match reply {
         Verdict::Accepted(_) => rows,
         _ => 0,

@@ -1,9 +1,16 @@
 // Numbers as bytes, four a number, the lowest first.
 ghost use Rattle.std.specs.Prelude.{◌≡◌, ◌++◌, ◌*◌, ◌≤◌, length, drop};
-ghost use Rattle.boundary.specs.Bytes.{bytes_of};
+ghost use Rattle.boundary.specs.Bytes.{four_of, bytes_of};
 
 // How many bytes a number has.
 pub const SIZE: usize = 4;
+
+// The bytes of a number, by themselves, so that wrong ones are refused for what they are.
+fn four(x: u32) -> [u8; SIZE]
+    ensures { result ≡ four_of x }
+{
+    x.to_le_bytes()
+}
 
 // The numbers over the first of the bytes; no other byte is stored.
 pub fn write(numbers: &[u32], bytes: &mut [u8])
@@ -12,6 +19,6 @@ pub fn write(numbers: &[u32], bytes: &mut [u8])
 {
     for (i, x) in numbers.iter().enumerate() {
         let at = SIZE * i;
-        bytes[at..at + SIZE].copy_from_slice(&x.to_le_bytes());
+        bytes[at..at + SIZE].copy_from_slice(&four(*x));
     }
 }

@@ -14,7 +14,7 @@ pub loop-i-preserved : goal.loop-i-preserved
 loop-i-preserved c =
     let four : length c.copy_from_slice.new.self ≡ 4 = omega arith in
     let bytes : c.copy_from_slice.new.self ≡ four_of (get_or c.args.numbers.now c.loop-i.i 0) =
-    c.copy_from_slice.ensures.after ∙ c.to_le_bytes.ensures in (
+    c.copy_from_slice.ensures.after ∙ c.four.ensures in (
       take-put_mid (4 * c.loop-i.i) _ c.loop-i.bytes _ _ (omega arith) (omega arith)
           ∙ rw (c.loop-i.invariant.0, bytes) (sym (bytes_next c.args.numbers.now c.loop-i.i c.loop-i-test.true)),
       drop-put_mid (4 * c.loop-i.i) _ c.loop-i.bytes _ _ (omega arith) (omega arith) (omega arith)
