@@ -49,6 +49,25 @@ impl Readable for &[u8] {
     }
 }
 
+// The same in an array and in a Vec, since a generic argument is not coerced.
+impl<const N: usize> Readable for &[u8; N] {
+    ghost source = { λ text. text_source text.now };
+
+    fn read(self) -> Result<RowsRead, Refusal> {
+        let text = self.as_slice();
+        text.read()
+    }
+}
+
+impl Readable for &Vec<u8> {
+    ghost source = { λ text. text_source text.now.items };
+
+    fn read(self) -> Result<RowsRead, Refusal> {
+        let text: &[u8] = self;
+        text.read()
+    }
+}
+
 // The table that is read, or the first check that fails: of the policy, of the lent buffer, which may be unfit, or of what is read. What
 // decides or runs matches it by reference: a table that a pattern or `?` binds by value is copied.
 #[tactic(auto, using(crate::proofs::InHand::check_in))]
