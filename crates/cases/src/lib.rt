@@ -6,12 +6,14 @@
 // any other byte for itself.
 #![tactic(auto)]
 
-ghost use Rattle.std.specs.Prelude.{◌≡◌, ◌==◌, ◌≤◌, IfOk, MatchOption, None, vec_len};
+ghost use Rattle.std.specs.Prelude.{◌≡◌, ◌==◌, ◌≤◌, MatchOption, None, length};
 ghost use Rattle.std.specs.List.{before_first, after_first, position};
 ghost use Rattle.cases.specs.declared.TheConstants.{ROOM};
 
-use std::alloc::{AllocError, Global};
 use std::{io, mem};
+pub use text::Text;
+
+mod text;
 
 // Room for a text, over the limit of 4,096 bytes.
 pub const ROOM: usize = 5_000;
@@ -69,85 +71,72 @@ pub fn reply_to_each<R: Input + Print, F: FnMut(&[u8]) -> io::Result<()>>(
 // What a written text stands for, as far as it is read, and how its next byte is meant.
 #[derive(Drop)]
 struct Decoder {
-    text: Vec<u8>,
+    text: Text,
     // A row's bracket is open.
     in_row: bool,
     // A backslash stood before.
     escaped: bool,
-    ghost fits: { vec_len text ≤ ROOM },
+    ghost fits: { length text ≤ ROOM },
 }
 
 impl Decoder {
-    // Adds a part, as far as there is room.
-    fn put(&mut self, part: &[u8]) -> Result<(), AllocError> {
-        let n = part.len().min(ROOM - self.text.len());
-        self.text.extend_from_slice(&part[..n])
-    }
-
-    fn put_ten_rows(&mut self) -> Result<(), AllocError> {
+    fn put_ten_rows(&mut self) {
         for _ in 0..10 {
-            self.put(ROW)?;
+            self.text.put(ROW);
         }
-        Ok(())
     }
 
     // A byte behind a backslash.
-    fn put_code(&mut self, c: u8) -> Result<(), AllocError> {
+    fn put_code(&mut self, c: u8) {
         match c {
-            b'h' => self.put(HEADER),
+            b'h' => self.text.put(HEADER),
             b'm' => self.put_ten_rows(),
-            b'c' => self.put(&[b'0'; 100]),
-            b'r' => self.put(b"\r"),
-            b'n' => self.put(b"\n"),
-            b't' => self.put(b"\t"),
-            b'0' => self.put(b"\0"),
-            b'x' => self.put(b"\xff"),
-            _ => self.put(&[c]),
+            b'c' => self.text.put(&[b'0'; 100]),
+            b'r' => self.text.put(b"\r"),
+            b'n' => self.text.put(b"\n"),
+            b't' => self.text.put(b"\t"),
+            b'0' => self.text.put(b"\0"),
+            b'x' => self.text.put(b"\xff"),
+            _ => self.text.put(&[c]),
         }
     }
 
     // Any other byte.
-    fn put_plain(&mut self, c: u8) -> Result<(), AllocError> {
+    fn put_plain(&mut self, c: u8) {
         match c {
-            b'\\' => {
-                self.escaped = true;
-                Ok(())
-            }
-            b'(' => {
-                self.in_row = true;
-                Ok(())
-            }
+            b'\\' => self.escaped = true,
+            b'(' => self.in_row = true,
             b')' => {
                 self.in_row = false;
-                self.put(b"\r\n")
+                self.text.put(b"\r\n");
             }
-            b' ' if self.in_row => self.put(b","),
-            _ => self.put(&[c]),
+            b' ' if self.in_row => self.text.put(b","),
+            _ => self.text.put(&[c]),
         }
     }
 
-    fn put_byte(&mut self, c: u8) -> Result<(), AllocError> {
+    fn put_byte(&mut self, c: u8) {
         if mem::replace(&mut self.escaped, false) {
-            self.put_code(c)
+            self.put_code(c);
         } else {
-            self.put_plain(c)
+            self.put_plain(c);
         }
     }
 }
 
 // The text that is written so: its first bytes, as many as there is room for.
-pub fn decode(alloc: Global, written: &[u8]) -> Result<Vec<u8>, AllocError>
-    ensures { IfOk result (λ text. vec_len text ≤ ROOM) }
+pub fn decode(written: &[u8]) -> Text
+    ensures { length result ≤ ROOM }
 {
     let mut decoder = Decoder {
-        text: Vec::new(alloc),
+        text: Text::new(),
         in_row: false,
         escaped: false,
     };
     for c in written {
-        decoder.put_byte(*c)?;
+        decoder.put_byte(*c);
     }
-    Ok(decoder.text)
+    decoder.text
 }
 
 #[cfg(test)]
@@ -156,18 +145,17 @@ mod tests {
     use std::alloc::AllocError;
 
     #[test]
-    fn a_text_is_decoded(rt: HostRuntime) -> Result<(), AllocError> {
-        let text = decode(rt.alloc(), b"a b\\r\\n(1 (2) 3\\(\\ \\\\\\0\\x\\")?;
+    fn a_text_is_decoded(rt: HostRuntime) {
+        let text = decode(b"a b\\r\\n(1 (2) 3\\(\\ \\\\\\0\\x\\");
         assert_eq!(rt; text.as_slice(), b"a b\r\n1,2\r\n 3( \\\0\xff".as_slice());
-        Ok(())
     }
 
     #[test]
     fn a_text_is_cut_off_where_the_room_ends(rt: HostRuntime) -> Result<(), AllocError> {
         let written = b"\\m".repeat(rt.alloc(), 40)?;
-        let text = decode(rt.alloc(), &written)?;
-        assert_eq!(rt; text.len(), ROOM);
-        assert!(rt; text.ends_with(b"\r\n1,"));
+        let text = decode(&written);
+        assert_eq!(rt; text.as_slice().len(), ROOM);
+        assert!(rt; text.as_slice().ends_with(b"\r\n1,"));
         Ok(())
     }
 }

@@ -13,7 +13,8 @@
 // over all bytes follows.
 #![tactic(auto)]
 
-use std::alloc::{AllocError, Global};
+ghost use Rattle.std.specs.Prelude.{◌≤◌};
+
 use std::{fmt, io};
 
 // The most bytes of input that are read.
@@ -95,109 +96,135 @@ fn with_digit(x: u64, c: u8) -> u64 {
     }
 }
 
-// The numbers of a part, none in an empty one. Where they are more than there is room for, all that follows goes on with the last.
-fn numbers(alloc: Global, part: &[u8]) -> Result<Vec<u64>, AllocError> {
+// The numbers of a part, none in an empty one; how many they are. Where they are more than there is room for, all that follows goes on
+// with the last.
+fn numbers(part: &[u8], list: &mut [u64; NUMBERS]) -> usize
+    ensures { result ≤ 64 }
+{
     if part.is_empty() {
-        return Ok(Vec::new(alloc));
+        return 0;
     }
-    part.splitn(NUMBERS, |c| *c == b' ')
-        .map(|digits| digits.iter().fold(0, |x, c| with_digit(x, *c)))
-        .collect(alloc)
+    let parts = part.splitn(NUMBERS, |c| *c == b' ');
+    for (number, digits) in list.iter_mut().zip(parts) {
+        *number = digits.iter().fold(0, |x, c| with_digit(x, *c));
+    }
+    let blanks = part.iter().filter(|c| **c == b' ').count();
+    blanks.min(NUMBERS - 1) + 1
 }
 
 fn narrow(x: u64) -> u32 {
     u32::try_from(x).unwrap_or(u32::MAX)
 }
 
-fn entries(alloc: Global, part: &[u8]) -> Result<Vec<u32>, AllocError> {
-    numbers(alloc, part)?
-        .iter()
-        .map(|x| narrow(*x))
-        .collect(alloc)
+fn entries(part: &[u8], list: &mut [u32; NUMBERS]) -> usize
+    ensures { result ≤ 64 }
+{
+    let mut wide = [0; NUMBERS];
+    let count = numbers(part, &mut wide);
+    for (entry, number) in list.iter_mut().zip(wide) {
+        *entry = narrow(number);
+    }
+    count
 }
 
 // THE CALLS
 
-fn lent<T: Copy>(alloc: Global, x: T, length: u64, most: usize) -> Result<Vec<T>, AllocError> {
-    vec![in alloc; x; most.min(length as usize)]
+// The first of the room, as many bytes as are lent.
+fn lent(room: &mut [u8; MOST_BYTES], length: u64) -> &mut [u8] {
+    let slots = &mut room[..MOST_BYTES.min(length as usize)];
+    slots.fill(LENT_BYTE);
+    slots
 }
 
 fn responses(
-    rt: &(impl Print + AllocGlobal),
+    rt: &impl Print,
     policy: u32,
     allowance: u64,
     text: &[u8],
     length: u64,
 ) -> io::Result<()> {
-    let mut numbers = lent(rt.alloc(), LENT_NUMBER, length, MOST_ROWS)?;
-    let verdict = checker::responses(policy, allowance, text, &mut numbers);
+    let mut lent = [LENT_NUMBER; MOST_ROWS];
+    let numbers = &mut lent[..MOST_ROWS.min(length as usize)];
+    let verdict = checker::responses(policy, allowance, text, numbers);
     print!(rt; " {verdict}")?;
-    put_all(rt, &numbers)
+    put_all(rt, numbers)
 }
 
 fn schedule(
-    rt: &(impl Print + AllocGlobal),
+    rt: &impl Print,
     policy: u32,
     text: &[u8],
     length: u64,
+    room: &mut [u8; MOST_BYTES],
 ) -> io::Result<()> {
-    let mut slots = lent(rt.alloc(), LENT_BYTE, length, MOST_BYTES)?;
-    let reply = checker::schedule(policy, text, &mut slots);
+    let slots = lent(room, length);
+    let reply = checker::schedule(policy, text, slots);
     print!(rt; " {reply}")?;
-    put_slots(rt, &slots)
+    put_slots(rt, slots)
 }
 
 fn as_run(
-    rt: &(impl Print + AllocGlobal),
+    rt: &impl Print,
     policy: u32,
     text: &[u8],
     length: u64,
     requests: &[u32],
     loadings: &[u32],
+    room: &mut [u8; MOST_BYTES],
 ) -> io::Result<()> {
-    let mut slots = lent(rt.alloc(), LENT_BYTE, length, MOST_BYTES)?;
-    let reply = checker::as_run(policy, text, requests, loadings, &mut slots);
+    let slots = lent(room, length);
+    let reply = checker::as_run(policy, text, requests, loadings, slots);
     print!(rt; " {reply}")?;
-    put_slots(rt, &slots)
+    put_slots(rt, slots)
 }
 
-fn ids(rt: &(impl Print + AllocGlobal), text: &[u8], length: u64) -> io::Result<()> {
-    let mut bytes = lent(rt.alloc(), LENT_BYTE, length, MOST_ROWS)?;
-    match checker::ids(text, &mut bytes) {
+fn ids(rt: &impl Print, text: &[u8], length: u64) -> io::Result<()> {
+    let mut lent = [LENT_BYTE; MOST_ROWS];
+    let bytes = &mut lent[..MOST_ROWS.min(length as usize)];
+    match checker::ids(text, bytes) {
         Ok(count) => print!(rt; " written {count}")?,
         Err(refusal) => print!(rt; " {refusal}")?,
     }
-    put_all(rt, &bytes)
+    put_all(rt, bytes)
 }
 
 // The reply to a case, cut at its bars: a part that is not there is empty, and a number that is not there 0.
-fn reply(rt: &(impl Print + AllocGlobal), case: &[u8]) -> io::Result<()> {
-    let alloc = rt.alloc();
+fn reply(rt: &impl Print, case: &[u8], room: &mut [u8; MOST_BYTES]) -> io::Result<()> {
     let mut parts = case.splitn(4, |c| *c == b'|');
     let mut part = || parts.next().unwrap_or_default();
     let (call, written, requests, loadings) = (part(), part(), part(), part());
-    let given = numbers(alloc, call)?;
-    let number = |k: usize| given.get(k).copied().unwrap_or(0);
-    let policy = narrow(number(1));
-    let decoded = cases::decode(alloc, written)?;
+    let mut given = [0; NUMBERS];
+    numbers(call, &mut given);
+    let policy = narrow(given[1]);
+    let decoded = cases::decode(written);
     let text = decoded.as_slice();
     match call.first() {
-        Some(b'v') => print!(rt; " {}", checker::verdict(policy, number(2), text)),
-        Some(b'r') => responses(rt, policy, number(2), text, number(3)),
-        Some(b's') => schedule(rt, policy, text, number(2)),
-        Some(b'a') => as_run(
-            rt,
-            policy,
-            text,
-            number(2),
-            &entries(alloc, requests)?,
-            &entries(alloc, loadings)?,
-        ),
-        Some(b'i') => ids(rt, text, number(1)),
+        Some(b'v') => print!(rt; " {}", checker::verdict(policy, given[2], text)),
+        Some(b'r') => responses(rt, policy, given[2], text, given[3]),
+        Some(b's') => schedule(rt, policy, text, given[2], room),
+        Some(b'a') => {
+            let mut asked = [0; NUMBERS];
+            let asks = entries(requests, &mut asked);
+            let mut begun = [0; NUMBERS];
+            let begins = entries(loadings, &mut begun);
+            as_run(
+                rt,
+                policy,
+                text,
+                given[2],
+                &asked[..asks],
+                &begun[..begins],
+                room,
+            )
+        }
+        Some(b'i') => ids(rt, text, given[1]),
         _ => rt.write_all(b" no call"),
     }
 }
 
 fn main(rt: HostRuntime) -> io::Result<()> {
-    cases::reply_to_each(&rt, &mut [0; MOST_INPUT], |case| reply(&rt, case))
+    let mut room = [0; MOST_BYTES];
+    cases::reply_to_each(&rt, &mut [0; MOST_INPUT], |case| {
+        reply(&rt, case, &mut room)
+    })
 }

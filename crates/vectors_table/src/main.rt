@@ -3,16 +3,15 @@
 // order. The crate cases says how a text is written. No crate uses it.
 #![tactic(auto)]
 
-use std::alloc::AllocGlobal;
 use std::io;
 
 // The most bytes of input that are read.
 const MOST_INPUT: usize = 32_768;
 
 // The reply to a written text.
-fn reply(rt: &(impl Print + AllocGlobal), written: &[u8]) -> io::Result<()> {
-    let text = cases::decode(rt.alloc(), written)?;
-    match table::check(1, false, table_csv::read_rows(&text)) {
+fn reply(rt: &impl Print, written: &[u8]) -> io::Result<()> {
+    let text = cases::decode(written);
+    match table::check(1, false, table_csv::read_rows(text.as_slice())) {
         Err(refusal) => print!(rt; " {} {}", refusal.number, refusal.place),
         Ok(t) => {
             print!(rt; " 0 0 {} {} {}", t.count, t.omax, t.hyper)?;
