@@ -63,20 +63,20 @@ module _ (p a : ℕ) (s : Source) (before : List ℕ) (wide : 64 ≤ length befo
   module _ (rows : ℕ) (counted : MatchResult source (λ x. rows ≡ x.count) (λ f. rows ≡ 0)) where
     -- ACCEPTED: there is room for the rows, and what is stored crosses
     module _ (n : ℕ) (yes : v ≡ verdict.Accepted n) where
-      fine : (ltb (length before) 64 ≡ false) × ((refusal_of s).number ≡ 0)
+      fine : (refusal_of s).number ≡ 0
       fine = eq_case (bytes_refusal p (length before) s).number 0
-          (lent_none p (ltb (length before) 64) s)
+          (λ z. (lent_none p (ltb (length before) 64) s z).1)
           (λ z. clash (ap accepts yes) (ap accepts (right.refused z)))
 
       count : rows ≡ length s.rows
-      count = rw (read, eq-eqb s.refusal.number 0 (passed s fine.1).0) at counted
+      count = rw (read, eq-eqb s.refusal.number 0 (passed s fine).0) at counted
 
       numbers_hold : Hold (system_of p s) lent numbers
       numbers_hold = rw yes at are.buffer
 
       room_accepted : (rows ≤ length numbers) × (4 * rows ≤ length before)
       room_accepted =
-          let few : rows ≤ 16 = omega (arith, count, tasks_few s fine.1, canonical_length s.rows) in
+          let few : rows ≤ 16 = omega (arith, count, tasks_few s fine, canonical_length s.rows) in
           let long : length numbers ≡ 16 = numbers_hold.length ∙ sixteen in
           (omega arith, omega arith)
 
@@ -92,7 +92,7 @@ module _ (p a : ℕ) (s : Source) (before : List ℕ) (wide : 64 ≤ length befo
               get_or numbers i 0,
               numbers_hold.worst i low,
               record {
-                fits = omega (arith, worst_low s fine.1 p i (get_or numbers i 0) (numbers_hold.worst i low));
+                fits = omega (arith, worst_low s fine p i (get_or numbers i 0) (numbers_hold.worst i low));
                 bytes = bytes_at (take rows numbers) (drop (4 * rows) before) i (omega arith) ∙ rw here;
               },
             );

@@ -52,7 +52,7 @@ fn respond(policy: u32, allowance: u64, text: &[u8], responses: &mut [u8]) -> Ve
     let source = table_csv::read_rows(text);
     let rows = source.map_or(0, |read| read.count);
     let mut numbers = [0u32; 16];
-    let reply = checker::responses(policy, allowance, source, &mut numbers);
+    let reply = checker::responses_of(policy, allowance, source, &mut numbers);
     let held = match reply {
         Verdict::Accepted(_) => rows,
         _ => 0,

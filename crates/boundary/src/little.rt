@@ -3,7 +3,7 @@ ghost use Rattle.std.specs.Prelude.{◌≡◌, ◌++◌, ◌*◌, ◌≤◌, len
 ghost use Rattle.boundary.specs.Bytes.{four_of, bytes_of};
 
 // How many bytes a number has.
-pub const SIZE: usize = 4;
+const SIZE: usize = 4;
 
 // The bytes of a number, by themselves, so that wrong ones are refused for what they are.
 fn four(x: u32) -> [u8; SIZE]

@@ -1,5 +1,5 @@
-// The checker: verdict, responses, schedule and as run, the four replies of the product, and ids, each over whatever a table is read
-// from. Whatever the input, each has a reply, and its contract is the definition of the rules. The C boundary and the programs use it.
+// The checker: verdict, responses, schedule and as run, the four replies of the product, and ids, each over a text, and over whatever
+// else a table is read from (`verdict_of` and so on). Whatever the input, each has a reply, and its contract is the definition of the rules. The C boundary and the programs use it.
 #![tactic(auto)]
 
 ghost use Rattle.std.specs.Prelude.{◌≡◌, MatchResult};
@@ -49,25 +49,6 @@ impl Readable for &[u8] {
     }
 }
 
-// The same in an array and in a Vec, since a generic argument is not coerced.
-impl<const N: usize> Readable for &[u8; N] {
-    ghost source = { λ text. text_source text.now };
-
-    fn read(self) -> Result<RowsRead, Refusal> {
-        let text = self.as_slice();
-        text.read()
-    }
-}
-
-impl Readable for &Vec<u8> {
-    ghost source = { λ text. text_source text.now.items };
-
-    fn read(self) -> Result<RowsRead, Refusal> {
-        let text: &[u8] = self;
-        text.read()
-    }
-}
-
 // The table that is read, or the first check that fails: of the policy, of the lent buffer, which may be unfit, or of what is read. What
 // decides or runs matches it by reference: a table that a pattern or `?` binds by value is copied.
 #[tactic(auto, using(crate::proofs::InHand::check_in))]
@@ -77,8 +58,10 @@ fn checked<S: Readable>(policy: u32, unfit: bool, source: S) -> Result<Table, Re
     table::check(policy, unfit, source.read())
 }
 
+// OF WHATEVER IS READ
+
 // Is the table on time under this policy? It spends an allowance of slots.
-pub fn verdict<S: Readable>(policy: u32, allowance: u64, source: S) -> Verdict
+pub fn verdict_of<S: Readable>(policy: u32, allowance: u64, source: S) -> Verdict
     ensures { VerdictIs policy allowance (S.source source) result }
 {
     match &checked(policy, false, source) {
@@ -88,7 +71,7 @@ pub fn verdict<S: Readable>(policy: u32, allowance: u64, source: S) -> Verdict
 }
 
 // The verdict; if it is accepted, the lent numbers hold the worst responses in ascending id.
-pub fn responses<S: Readable>(
+pub fn responses_of<S: Readable>(
     policy: u32,
     allowance: u64,
     source: S,
@@ -110,7 +93,7 @@ pub fn responses<S: Readable>(
 
 // Two bytes a slot, id and kind, of the run with these requests and loading lengths.
 #[tactic(auto, using(crate::proofs::Written::as_run_filled, crate::proofs::Written::as_run_missed))]
-pub fn as_run<S: Readable>(
+pub fn as_run_of<S: Readable>(
     policy: u32,
     source: S,
     requests: &[u32],
@@ -138,18 +121,56 @@ pub fn as_run<S: Readable>(
 
 // Two bytes a slot, id and kind, of the schedule.
 #[tactic(auto, using(crate::proofs::Written::schedule_as_run))]
-pub fn schedule<S: Readable>(policy: u32, source: S, slots: &mut [u8]) -> ScheduleReply
+pub fn schedule_of<S: Readable>(policy: u32, source: S, slots: &mut [u8]) -> ScheduleReply
     ensures { ScheduleIs policy (S.source source) slots.old slots.new result }
 {
-    as_run(policy, source, &[], &[], slots)
+    as_run_of(policy, source, &[], &[], slots)
 }
 
 // Which ids the table has: as bytes in ascending order, as responses are.
 #[tactic(auto, using(crate::proofs::Named::ids_written))]
-pub fn ids<S: Readable>(source: S, ids: &mut [u8]) -> Result<u64, Refusal>
+pub fn ids_of<S: Readable>(source: S, ids: &mut [u8]) -> Result<u64, Refusal>
     ensures { IdsAre (S.source source) ids.old ids.new result }
 {
     let t = checked(ANY_POLICY, table::too_few(ids.len()), source)?;
     labels::write_ids(&t.rows[..t.count], ids);
     Ok(t.count as u64)
+}
+
+// OF A TEXT, as a slice: an array, a Vec and a lent buffer are coerced to it, which no generic argument is
+
+pub fn verdict(policy: u32, allowance: u64, text: &[u8]) -> Verdict
+    ensures { VerdictIs policy allowance (text_source text.now) result }
+{
+    verdict_of(policy, allowance, text)
+}
+
+pub fn responses(policy: u32, allowance: u64, text: &[u8], numbers: &mut [u32]) -> Verdict
+    ensures { ResponsesAre policy allowance (text_source text.now) numbers.old numbers.new result }
+{
+    responses_of(policy, allowance, text, numbers)
+}
+
+pub fn as_run(
+    policy: u32,
+    text: &[u8],
+    requests: &[u32],
+    loadings: &[u32],
+    slots: &mut [u8],
+) -> ScheduleReply
+    ensures { AsRunIs policy (text_source text.now) requests.now loadings.now slots.old slots.new result }
+{
+    as_run_of(policy, text, requests, loadings, slots)
+}
+
+pub fn schedule(policy: u32, text: &[u8], slots: &mut [u8]) -> ScheduleReply
+    ensures { ScheduleIs policy (text_source text.now) slots.old slots.new result }
+{
+    schedule_of(policy, text, slots)
+}
+
+pub fn ids(text: &[u8], ids: &mut [u8]) -> Result<u64, Refusal>
+    ensures { IdsAre (text_source text.now) ids.old ids.new result }
+{
+    ids_of(text, ids)
 }

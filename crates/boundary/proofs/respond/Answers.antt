@@ -10,24 +10,24 @@ slice_bounds-numbers-end c =
     let wide : 64 ≤ length c.args.responses.now = omega arith in
     let counted : MatchResult c.read_rows-source.result (λ x. c.map_or-rows.result ≡ x.count) (λ f. c.map_or-rows.result ≡ 0) =
     search rules in
-    let told : c.match-reply.held ≡ held_of c.responses-reply.result c.map_or-rows.result = search rules in
+    let told : c.match-reply.held ≡ held_of c.responses_of-reply.result c.map_or-rows.result = search rules in
     fits c.args.policy c.args.allowance (text_source c.args.text.now) c.args.responses.now wide _ c.read_rows-source.ensures _ _ refl _
-    c.responses-reply.ensures _ counted _ told
+    c.responses_of-reply.ensures _ counted _ told
 
 pub slice_bounds-write-end : goal.slice_bounds-write-end
 slice_bounds-write-end c =
     let wide : 64 ≤ length c.args.responses.now = omega arith in
     let counted : MatchResult c.read_rows-source.result (λ x. c.map_or-rows.result ≡ x.count) (λ f. c.map_or-rows.result ≡ 0) =
     search rules in
-    let told : c.match-reply.held ≡ held_of c.responses-reply.result c.map_or-rows.result = search rules in
+    let told : c.match-reply.held ≡ held_of c.responses_of-reply.result c.map_or-rows.result = search rules in
     sym (exact c.args.policy c.args.allowance (text_source c.args.text.now) c.args.responses.now wide _ c.read_rows-source.ensures _ _
-    refl _ c.responses-reply.ensures _ counted _ told)
+    refl _ c.responses_of-reply.ensures _ counted _ told)
 
 pub returns : goal.returns
 returns c =
     let wide : 64 ≤ length c.args.responses.now = omega arith in
     let counted : MatchResult c.read_rows-source.result (λ x. c.map_or-rows.result ≡ x.count) (λ f. c.map_or-rows.result ≡ 0) =
     search rules in
-    let told : c.match-reply.held ≡ held_of c.responses-reply.result c.map_or-rows.result = search rules in
+    let told : c.match-reply.held ≡ held_of c.responses_of-reply.result c.map_or-rows.result = search rules in
     stores c.args.policy c.args.allowance (text_source c.args.text.now) c.args.responses.now wide _ c.read_rows-source.ensures _ _
-    refl _ c.responses-reply.ensures _ counted _ told _ c.write.ensures
+    refl _ c.responses_of-reply.ensures _ counted _ told _ c.write.ensures

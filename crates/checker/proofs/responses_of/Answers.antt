@@ -1,7 +1,7 @@
--- `responses`: where it is accepted, the worst responses stand in the lent numbers.
+-- `responses_of`: where it is accepted, the worst responses stand in the lent numbers.
 use Rattle.std.proofs.Common.{rules, ◌≡◌, ◌≤◌, ap, ◌++◌, drop, length}
 use Rattle.checker.proofs.Replied.{decided, accepted_leaves}
-use Rattle.checker.proofs.responses.Goals as goal
+use Rattle.checker.proofs.responses_of.Goals as goal
 
 pub returns-in-Accepted : goal.returns-in-Accepted
 returns-in-Accepted g c =
