@@ -1,5 +1,6 @@
 // The checker: verdict, responses, schedule and as run, the four replies of the product, and ids, each over a text, and over whatever
-// else a table is read from (`verdict_of` and so on). Whatever the input, each has a reply, and its contract is the definition of the rules. The C boundary and the programs use it.
+// else a table is read from (`verdict_of` and so on). Whatever the input, each has a reply, and its contract is the definition of the
+// rules. The C boundary and the programs use it.
 #![tactic(auto)]
 
 ghost use Rattle.std.specs.Prelude.{◌≡◌, MatchResult};

@@ -223,6 +223,7 @@ fn reply(rt: &impl Print, case: &[u8], room: &mut [u8; MOST_BYTES]) -> io::Resul
 }
 
 fn main(rt: HostRuntime) -> io::Result<()> {
+    // One for all cases: an array in each call would be cleared for each line.
     let mut room = [0; MOST_BYTES];
     cases::reply_to_each(&rt, &mut [0; MOST_INPUT], |case| {
         reply(&rt, case, &mut room)
